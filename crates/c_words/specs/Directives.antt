@@ -6,7 +6,7 @@ use Rattle.cop1.specs.declared.vocabulary.Directive.TheVariants.{InitUnlock, Ini
 use Rattle.cop1.specs.declared.vocabulary.Directive.TheVariants.{SetVs, SetWindow, SetLimit}
 use Rattle.cop1.specs.declared.vocabulary.Directive.TheVariants.{SetTimer}
 
--- a window or a limit above 255 stands for 0: no sender takes either
+-- a window or a limit above 255 is represented by 0, since no sender accepts either
 abbrev pub octet_of : ℕ → ℕ
 octet_of value = if nat_le value 255 then value else 0
 

@@ -5,8 +5,8 @@ ghost use Rattle.c_words.specs.Directives.{octet_of, directive_named};
 
 use cop1::Directive;
 
-/// The directive that a kind, 1 to 9, and a value name, if they name one. The value is ignored where the directive has
-/// none.
+/// Returns the directive that a kind, 1 to 9, and a value name, if they name one. The value is
+/// ignored if the directive has none.
 pub fn directive_named(kind: u8, value: u16) -> Option<Directive>
     ensures { result ≡ directive_named kind value }
 {

@@ -1,4 +1,5 @@
-//! What both libraries for C share: the words and sentences that they hand out, and the directives by numbers.
+//! What both libraries for C share: the words and sentences that they return, and the directives by
+//! numbers.
 #![tactic(auto)]
 
 mod directives;
@@ -15,7 +16,7 @@ pub struct Text {
     pub text: [u8; 20],
 }
 
-/// The word as C has it.
+/// Returns the word as C represents it.
 pub fn spelled(word: &str) -> Text
     requires { length word.now ≤ 19 }
     ensures { result.text ≡ text_of word.now }
@@ -32,7 +33,7 @@ pub struct Advice {
     pub text: [u8; 160],
 }
 
-/// The sentence as C has it.
+/// Returns the sentence as C represents it.
 pub fn advised(sentence: &str) -> Advice
     requires { length sentence.now ≤ 159 }
     ensures { result.text ≡ sentence_of sentence.now }
@@ -42,7 +43,7 @@ pub fn advised(sentence: &str) -> Advice
     Advice { text }
 }
 
-/// The name of the one of these that has the number; "?" where none has it.
+/// Returns the name of the one of these that has the number, or "?" if none has it.
 #[macro_export]
 macro_rules! named {
     ($number:ident, $kind:ident: $($at:literal => $one:ident),+) => {

@@ -10,11 +10,11 @@ pub known_bits-flag_table : known_bits flag_table ≡ 248
 unfolding bitflags_on_literals
 known_bits-flag_table = refl
 
--- the bits that flags name
+-- the named bits of a number below 256
 pub and-named : (n : ℕ) → n < 256 → bit_and n (known_bits flag_table) ≡ n / 8 * 8
 and-named n fits = rw known_bits-flag_table (and_high_mask 8 3 (omega arith) n fits)
 
--- flags alone name the bits of a multiple of 8
+-- a number has only named bits exactly when it is a multiple of 8
 pub named-mod : (n : ℕ) → n < 256 → (bit_and n (known_bits flag_table) ≡ n) ↔ (n % 8 ≡ 0)
 named-mod n fits =
     let is = and-named n fits in

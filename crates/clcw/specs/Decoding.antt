@@ -1,4 +1,4 @@
--- Reading four octets as a control word (CCSDS 232.0-B-4, 4.2.1), with the first fault.
+-- Reading four octets as a CLCW (CCSDS 232.0-B-4, 4.2.1), or the first fault.
 use Rattle.std.specs.Prelude.{ℕ, ◌*◌, ◌/◌, ◌%◌, List, not, ◌==◌, slice_index, if◌then◌else◌, Result}
 use Rattle.std.specs.Prelude.{Ok, Err}
 use Rattle.clcw.specs.declared.word.Clcw.{Clcw}
@@ -6,7 +6,7 @@ use Rattle.clcw.specs.declared.fault.ClcwFault.{ClcwFault}
 use Rattle.clcw.specs.declared.fault.ClcwFault.TheVariants.{Kind, Version, Cop, Spare}
 use Rattle.clcw.specs.Flags.{flags_from}
 
--- the fields, where nothing is wrong
+-- the fields, if nothing is wrong
 abbrev pub fields_at : ℕ → ℕ → ℕ → ℕ → Clcw
 fields_at first second third fourth =
     record {
@@ -28,7 +28,7 @@ word_at first second third fourth =
     else (if not (third % 2 == 0) then Err Spare
     else Ok (fields_at first second third fourth)))))
 
--- the word that the octets spell, or the first fault in this order
+-- the CLCW that the octets spell, or the first fault in this order
 unfoldable pub clcw_at : List ℕ → Result Clcw ClcwFault
 clcw_at octets =
     word_at (slice_index octets 0) (slice_index octets 1) (slice_index octets 2)

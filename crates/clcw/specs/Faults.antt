@@ -1,4 +1,4 @@
--- The refusals of a control word: a row each.
+-- The faults of a CLCW, one row each.
 use Rattle.std.specs.Prelude.{ℕ, List, codes}
 use Rattle.clcw.specs.declared.fault.ClcwFault.{ClcwFault}
 use Rattle.clcw.specs.declared.fault.ClcwFault.TheVariants.{Kind, Version, Cop, Spare, Range}

@@ -1,5 +1,5 @@
--- The five flags of a control word: bits 16 to 20 (CCSDS 232.0-B-4, 4.2.1.8), as the bits of its
--- third octet.
+-- The five flags of a CLCW: bits 16 to 20 (CCSDS 232.0-B-4, 4.2.1.8), as the bits of its third
+-- octet.
 use Rattle.std.specs.Prelude.{ℕ, Bool, List, [], ◌∷◌, ◌==◌, codes}
 use Rattle.std.specs.Int.RustNames.{bit_and}
 use Rattle.clcw.specs.declared.flags.ClcwFlags.{ClcwFlags}

@@ -1,4 +1,4 @@
-// Reading a control word.
+// Reads a CLCW.
 
 ghost use Rattle.std.specs.Prelude.{◌≡◌, Ok, IfOk};
 ghost use Rattle.clcw.specs.Layout.{IsClcw};
@@ -9,8 +9,8 @@ use crate::fault::ClcwFault;
 use crate::flags::ClcwFlags;
 use crate::word::Clcw;
 
-/// The control word that four octets spell (CCSDS 232.0-B-4, 4.2.1), or the first of the faults that
-/// applies.
+/// Returns the CLCW that four octets spell (CCSDS 232.0-B-4, 4.2.1). Refuses with the first fault
+/// that applies.
 /// Faults: 1 Kind, 2 Version, 3 Cop, 4 Spare.
 #[tactic(auto, unfolding(crate::specs::Decoding::clcw_at))]
 pub fn decode(octets: [u8; 4]) -> Result<Clcw, ClcwFault>

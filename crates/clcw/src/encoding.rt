@@ -1,4 +1,4 @@
-// Writing a control word.
+// Writes a CLCW.
 
 ghost use Rattle.std.specs.Prelude.{◌≡◌, Ok, IfOk};
 ghost use Rattle.clcw.specs.Layout.{IsClcw};
@@ -9,7 +9,7 @@ use crate::fault::ClcwFault;
 use crate::word::Clcw;
 use bitflags::Flags;
 
-/// The four octets that spell a control word (CCSDS 232.0-B-4, 4.2.1). Refuses a field that is too
+/// Returns the four octets that spell a CLCW (CCSDS 232.0-B-4, 4.2.1). Refuses a field that is too
 /// large for its bits, and a flag bit that has no name.
 /// Faults: 5 Range.
 pub fn encode(word: &Clcw) -> Result<[u8; 4], ClcwFault>

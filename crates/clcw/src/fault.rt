@@ -1,11 +1,11 @@
-// Why a control word was refused.
+// Why a CLCW was refused.
 
 ghost use Rattle.std.specs.Prelude.{◌≡◌};
 
 use std::error::Error;
 use std::fmt::{self, Display, Formatter, Write};
 
-/// Why octets were refused as a control word, or a control word has no octets.
+/// Why octets were refused as a CLCW, or why a CLCW has no octets.
 #[derive(Clone, Copy, Debug, PartialEq, Eq)]
 pub enum ClcwFault {
     /// The control word type is not 0.
@@ -23,14 +23,14 @@ pub enum ClcwFault {
 impl ClcwFault {
     ghost use Rattle.clcw.specs.Faults.{fault_row};
 
-    /// The fault's number, 1 to 5.
+    /// Returns the fault's number, 1 to 5.
     pub fn number(self) -> u8
         ensures { result ≡ (fault_row self).0 }
     {
         self as u8
     }
 
-    /// The fault's name, as it is written here.
+    /// Returns the fault's name, as it is written here.
     pub fn name(self) -> &'static str
         ensures { result.now ≡ (fault_row self).1 }
     {

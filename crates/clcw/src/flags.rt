@@ -1,12 +1,12 @@
-// The flags of a control word.
+// The flags of a CLCW.
 
 ghost use Rattle.std.specs.Prelude.{◌≡◌, ◌*◌, ◌/◌, ◌%◌, ◌↔◌, IsTrue, ⊤};
 ghost use Rattle.clcw.specs.Flags.{flag_table, flags_number};
 
 use bitflags::{Flag, Flags};
 
-/// The flags of a control word, as the bits of its third octet (CCSDS 232.0-B-4, 4.2.1.8). A
-/// contract sees them as the sum of their values, `flags_number`.
+/// The flags of a CLCW, as the bits of its third octet (CCSDS 232.0-B-4, 4.2.1.8). Contracts see
+/// them as the sum of their values, `flags_number`.
 #[repr(C)]
 #[derive(Clone, Copy, Debug, Default, PartialEq, Eq)]
 pub struct ClcwFlags(u8);
@@ -18,13 +18,13 @@ impl ClcwFlags {
     /// The receiver has no bit lock.
     pub const NO_BIT_LOCK: ClcwFlags = ClcwFlags(0x40);
 
-    /// FARM-1 is in its state Lockout.
+    /// FARM-1 is in state Lockout.
     pub const LOCKOUT: ClcwFlags = ClcwFlags(0x20);
 
-    /// FARM-1 has no room for a further frame.
+    /// FARM-1 has no room for another frame.
     pub const WAIT: ClcwFlags = ClcwFlags(0x10);
 
-    /// Frames have to be sent again, from the reported number on.
+    /// Frames must be retransmitted, from the reported number on.
     pub const RETRANSMIT: ClcwFlags = ClcwFlags(0x08);
 
     /// All flags, with their names.

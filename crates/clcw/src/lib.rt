@@ -1,5 +1,5 @@
-//! The communications link control word, by which a receiver of telecommand frames reports to its
-//! sender (CCSDS 232.0-B-4, 4.2).
+//! The communications link control word (CLCW), with which a receiver of telecommand frames reports
+//! to its sender (CCSDS 232.0-B-4, 4.2).
 #![tactic(auto)]
 
 mod decoding;

@@ -1,4 +1,5 @@
--- What the parser of words says of a value that it hands out: the value passed the parser of its argument.
+-- What the argument parser guarantees about a value that it returns: the value passed the parser of its
+-- argument.
 use Rattle.std.proofs.Common.{codes, zero, suc, ◌≡◌, ◌∙◌, ◌++◌, subst, ◌<◌, ap, ◌||◌, ◌&&◌, not, ℕ, Bool}
 use Rattle.std.proofs.Common.{true, false, List, [], ◌∷◌, length, is_some, Option, Some, None, refl, sym, inl, inr}
 use Rattle.std.proofs.Common.{arith}
@@ -30,7 +31,7 @@ use Rattle.command_line.specs.declared.commands.Named.TheVariants as commands
 use Rattle.command_line.specs.Arguments.{AreArguments, Gives, GivesAll, IsArgument, IsBare, IsNumberIn, Wanted}
 use Rattle.command_line.specs.Arguments.{wanted_of}
 
--- a command that these arguments made, one after another
+-- a command that is built from these arguments, one after another
 record IsMadeOf (xs : List Arg) (cmd : Command) : Type 0 where
   pub start : Command
   pub chain : AddsInTurn AddsArg start xs cmd
@@ -78,7 +79,7 @@ kept c cmd (x ∷ xs) chain fit plain globals =
       globals = more.globals;
     }
 
--- a text that an argument gives, as its parser reads it, and that the parser accepts
+-- a text that an argument gives, as its parser reads and accepts it
 record IsAccepted (a : Arg) (q : ValueParser) (text : List ℕ) : Type 0 where
   pub given : List ℕ
   pub read : text ≡ read_as (reading_of q) given
@@ -151,7 +152,7 @@ module _ (cmd : Command) (m : ArgMatches) (p : IsParsedFrom cmd m) (plain : IsPl
   accepted_at : (t : List ℕ) → one_text (found_of m) arg.id.now ≡ Some t → IsAccepted arg q t
   accepted_at t one = accepted_of (matched_of (found_of m) arg.id.now) t refl one
 
--- ---- a command that is made of arguments
+-- ---- a command that is built from arguments
 
 module _ (xs : List Arg) (cmd : Command) (made : IsMadeOf xs cmd) (m : ArgMatches) (p : IsParsedFrom cmd m) (k : ℕ)
     (d : Arg) (lt : k < length xs) where
@@ -206,7 +207,7 @@ module _ (xs : List Arg) (cmd : Command) (made : IsMadeOf xs cmd) (m : ArgMatche
       required_in_chain made.start cmd xs k d m made.chain made.bare.0 made.bare.1 made.bare.2 made.bare.3 made.fit
       made.distinct lt takes p
 
-  -- and so the argument gives what is wanted of it
+  -- and so the argument gives what is expected of it
   gives_wanted : (w : Wanted) → IsArgument given w → Gives m w
   gives_wanted w is = (OnTrue_from w.is_required _ some, in_range w.range is.4)
     where
@@ -299,13 +300,13 @@ each_gives m (a ∷ xs) [] are f = absurd are
 each_gives m (a ∷ xs) (w ∷ ws) are f =
     (f 0 a (omega arith) w are.0, each_gives m xs ws are.1 (λ k d lt. f (suc k) d (omega arith)))
 
--- ---- the words of a command
+-- ---- the arguments of a command
 
 own_names : (command : Named) → have_own_names (wanted_of command) ≡ true
 own_names commands.Farm = refl
 own_names command = refl
 
--- a command's words give what is wanted of its arguments
+-- the input of a command gives what is expected of its arguments
 pub words_give : (command : Named) (xs : List Arg) (start cmd : Command) → AreArguments xs (wanted_of command)
     → IsBare start → AddsInTurn AddsArg start xs cmd → (m : ArgMatches) → IsParsedFrom cmd m
     → GivesAll m (wanted_of command)
@@ -320,7 +321,7 @@ words_give command xs start cmd are bare chain m p =
     } in
     each_gives m xs (wanted_of command) are (λ k d lt. gives_wanted xs cmd made m p k d lt)
 
--- and so what they give for the one after all others
+-- and so does the last argument
 pub last_given : (m : ArgMatches) (ws : List Wanted) (w : Wanted) → GivesAll m (ws ++ w ∷ []) → Gives m w
 last_given m [] w h = h.0
 last_given m (v ∷ ws) w h = last_given m ws w h.1

@@ -1,4 +1,4 @@
--- The arguments of the commands, and what their words give.
+-- The arguments of the commands, and the values that they give.
 use Rattle.std.specs.Prelude.{◌≡◌, ◌++◌, ℕ, Bool, true, false, List, [], ◌∷◌, Option, Some, None}
 use Rattle.std.specs.Prelude.{IfSome, codes, is_some, pos, ◌<◌, ◌≤◌, ◌%◌}
 use Rattle.std.specs.Bool.{OnTrue}
@@ -29,8 +29,8 @@ IsBare command =
     (args_of command ≡ []) × (groups_of command ≡ []) × ((fields_of command).has_globals ≡ false)
     × ((fields_of command).subcommand_negates_reqs ≡ false)
 
--- what an argument has to be: its name, whether it has to be given, and the range of its number
--- where it has one
+-- what an argument must be: its name, whether it is required, and the range of its number, if it
+-- has one
 pub record Wanted : Type 0 where
   pub name : List ℕ
   pub is_required : Bool
@@ -84,7 +84,7 @@ apid = record (named (codes "apid")) { range = Some (0, 2047) }
 abbrev pub file : Wanted
 file = record { name = codes "FILE"; is_required = true; range = None }
 
--- a file that may be left out
+-- a file that may be omitted
 abbrev pub input : Wanted
 input = named (codes "FILE")
 
@@ -94,7 +94,7 @@ file_of commands.Ground = input
 file_of commands.Spacecraft = input
 file_of _ = file
 
--- the arguments of each command but the file
+-- the arguments of each command, except the file
 abbrev pub options_of : Named → List Wanted
 options_of commands.Farm = width ∷ vr ∷ scid ∷ vcid ∷ check ∷ resync ∷ count ∷ []
 options_of commands.Map =
@@ -112,14 +112,14 @@ options_of commands.Spacecraft = []
 abbrev pub wanted_of : Named → List Wanted
 wanted_of command = options_of command ++ file_of command ∷ []
 
--- the argument is the one that is wanted, excludes nothing, and is of its command alone
+-- the argument is the expected one, excludes nothing, and belongs only to its command
 abbrev pub IsArgument : Arg → Wanted → Type 0
 IsArgument a wanted =
     (a.id.now ≡ wanted.name) × IsPlainArg a × (a.global ≡ false)
     × OnTrue wanted.is_required (TakesValue a)
     × IfSome wanted.range (λ r. a.value_parser ≡ Some (parsers.Signed (pos r.0) (pos r.1)))
 
--- and so are these, one after another
+-- and so are these arguments, one after another
 abbrev pub AreArguments : List Arg → List Wanted → Type 0
 AreArguments [] [] = Unit {0}
 AreArguments [] (wanted ∷ more) = ⊥
@@ -132,7 +132,7 @@ IsNumberIn range text =
     (word : List ℕ) × (text ≡ without_minus word)
     × IsSignedIn (pos range.0) (pos range.1) word
 
--- the words give a value if one is wanted, and no number that is out of range
+-- the input has a value if one is required, and no number that is out of range
 abbrev pub Gives : ArgMatches → Wanted → Type 0
 Gives given wanted =
     OnTrue wanted.is_required (is_some (first_value (found_of given) wanted.name) ≡ true)
@@ -143,7 +143,7 @@ abbrev pub GivesAll : ArgMatches → List Wanted → Type 0
 GivesAll given [] = Unit {0}
 GivesAll given (wanted ∷ more) = Gives given wanted × GivesAll given more
 
--- The ranges of the numbers that the words give.
+-- The ranges of the numbers in the input.
 
 -- of a spacecraft, and of a virtual channel up to this one
 abbrev pub AreIdentifiers : ℕ → Channel → Type 0
@@ -152,7 +152,7 @@ AreIdentifiers most c = IfSome c.scid (λ n. n ≤ 1023) × IfSome c.vcid (λ n.
 abbrev pub IsMapPart : MapPart → Type 0
 IsMapPart p = AreIdentifiers 63 p.part.channel × IfSome p.map (λ n. n ≤ 63)
 
--- what is listed of the good frames of a channel
+-- what is listed for the good frames of a channel
 abbrev pub IsSearched : Searched → Type 0
 IsSearched (searches.Farm width vr from_first) = IsWidth width × (vr < 256)
 IsSearched (searches.Map width vr from_first blocking map) =

@@ -12,12 +12,12 @@ use clap::builder::ValueParser;
 use clap::{Arg, ArgAction, value_parser};
 use std::alloc::{AllocError, Global};
 
-/// The word for the number of the first frame that comes.
+/// The word for the number of the first frame that arrives.
 pub const FIRST: &str = "first";
 
 impl Named {
-    /// The arguments that the command takes, where `help` says what its file is, and `by_word` whether
-    /// `--vr` has a word in place of a number.
+    /// Returns the arguments that the command takes. `help` describes its file, and `by_word` states
+    /// whether `--vr` has a word instead of a number.
     pub fn arguments<'a>(
         self,
         alloc: Global,
@@ -41,7 +41,7 @@ impl Named {
     }
 }
 
-// The arguments of `farm`.
+// Returns the arguments of `farm`.
 fn farm_arguments<'a>(
     alloc: Global,
     help: &'a str,
@@ -62,7 +62,7 @@ fn farm_arguments<'a>(
     ]?)
 }
 
-// The arguments of `map`.
+// Returns the arguments of `map`.
 fn map_arguments<'a>(
     alloc: Global,
     help: &'a str,
@@ -85,7 +85,7 @@ fn map_arguments<'a>(
     ]?)
 }
 
-// The arguments of `tc`.
+// Returns the arguments of `tc`.
 fn tc_arguments<'a>(alloc: Global, help: &'a str) -> Result<Vec<Arg<'a>>, AllocError>
     ensures { IfOk result (λ arguments. AreArguments arguments.items (wanted_of commands.Tc)) }
 {
@@ -100,7 +100,7 @@ fn tc_arguments<'a>(alloc: Global, help: &'a str) -> Result<Vec<Arg<'a>>, AllocE
     ]?)
 }
 
-// The arguments of `check`.
+// Returns the arguments of `check`.
 fn check_arguments<'a>(alloc: Global, help: &'a str) -> Result<Vec<Arg<'a>>, AllocError>
     ensures { IfOk result (λ arguments. AreArguments arguments.items (wanted_of commands.Check)) }
 {
@@ -114,7 +114,7 @@ fn check_arguments<'a>(alloc: Global, help: &'a str) -> Result<Vec<Arg<'a>>, All
     ]?)
 }
 
-// The arguments of `tm`.
+// Returns the arguments of `tm`.
 fn tm_arguments<'a>(alloc: Global, help: &'a str) -> Result<Vec<Arg<'a>>, AllocError>
     ensures { IfOk result (λ arguments. AreArguments arguments.items (wanted_of commands.Tm)) }
 {
@@ -128,7 +128,7 @@ fn tm_arguments<'a>(alloc: Global, help: &'a str) -> Result<Vec<Arg<'a>>, AllocE
     ]?)
 }
 
-// The arguments of `clcw`.
+// Returns the arguments of `clcw`.
 fn clcw_arguments<'a>(alloc: Global, help: &'a str) -> Result<Vec<Arg<'a>>, AllocError>
     ensures { IfOk result (λ arguments. AreArguments arguments.items (wanted_of commands.Clcw)) }
 {
@@ -139,7 +139,7 @@ fn clcw_arguments<'a>(alloc: Global, help: &'a str) -> Result<Vec<Arg<'a>>, Allo
     ]?)
 }
 
-// The arguments of `packets`.
+// Returns the arguments of `packets`.
 fn packets_arguments<'a>(alloc: Global, help: &'a str) -> Result<Vec<Arg<'a>>, AllocError>
     ensures { IfOk result (λ arguments. AreArguments arguments.items (wanted_of commands.Packets)) }
 {
@@ -150,7 +150,7 @@ fn packets_arguments<'a>(alloc: Global, help: &'a str) -> Result<Vec<Arg<'a>>, A
     ]?)
 }
 
-// The arguments of `encode`.
+// Returns the arguments of `encode`.
 fn encode_arguments<'a>(alloc: Global, help: &'a str) -> Result<Vec<Arg<'a>>, AllocError>
     ensures { IfOk result (λ arguments. AreArguments arguments.items (wanted_of commands.Encode)) }
 {
@@ -161,14 +161,14 @@ fn encode_arguments<'a>(alloc: Global, help: &'a str) -> Result<Vec<Arg<'a>>, Al
     ]?)
 }
 
-// The arguments of `sim`.
+// Returns the arguments of `sim`.
 fn sim_arguments<'a>(alloc: Global, help: &'a str) -> Result<Vec<Arg<'a>>, AllocError>
     ensures { IfOk result (λ arguments. AreArguments arguments.items (wanted_of commands.Sim)) }
 {
     Ok(vec![in alloc; file_argument(alloc, help)]?)
 }
 
-// The arguments of a node that is played.
+// Returns the arguments of a node that is run line by line.
 fn node_arguments<'a>(alloc: Global, help: &'a str) -> Result<Vec<Arg<'a>>, AllocError>
     ensures { IfOk result (λ arguments. AreArguments arguments.items (wanted_of commands.Ground)) }
 {
@@ -183,11 +183,12 @@ fn width_option<'a>(alloc: Global) -> Arg<'a>
     option(alloc, "width", "W", help).value_parser(value_parser!(u8).range(2..=254))
 }
 
-// `--vr N`, the number of the first frame that is expected. A number and the word have a parser each.
+// `--vr N`, the number of the first frame that is expected. A number and the word have separate
+// parsers.
 fn vr_option<'a>(alloc: Global, by_word: bool) -> Arg<'a>
     ensures { IsArgument result vr }
 {
-    let help = "Number of the first frame that is expected, 0 to 255, or first [default: 0]";
+    let help = "Number of the first frame expected, 0 to 255, or first [default: 0]";
     let number = option(alloc, "vr", "N", help);
     if by_word {
         number
@@ -202,7 +203,7 @@ fn vr_option<'a>(alloc: Global, by_word: bool) -> Arg<'a>
 fn scid_option<'a>(alloc: Global) -> Arg<'a>
     ensures { IsArgument result scid }
 {
-    let help = "Lists the frames of this spacecraft alone, 0 to 1023";
+    let help = "List only frames of this spacecraft, 0 to 1023";
     option(alloc, "scid", "S", help).value_parser(value_parser!(u16).range(0..=1023))
 }
 
@@ -210,15 +211,15 @@ fn scid_option<'a>(alloc: Global) -> Arg<'a>
 fn vcid_option<'a>(alloc: Global) -> Arg<'a>
     ensures { IsArgument result vcid }
 {
-    let help = "Lists the frames of this virtual channel alone, 0 to 63";
+    let help = "List only frames of this virtual channel, 0 to 63";
     option(alloc, "vcid", "V", help).value_parser(value_parser!(u8).range(0..=63))
 }
 
-// `--vcid V`, the virtual channel that control words report on.
+// `--vcid V`, the virtual channel that CLCWs report on.
 fn word_vcid_option<'a>(alloc: Global) -> Arg<'a>
     ensures { IsArgument result vcid }
 {
-    let help = "Lists the control words of this virtual channel alone, 0 to 63";
+    let help = "List only CLCWs of this virtual channel, 0 to 63";
     option(alloc, "vcid", "V", help).value_parser(value_parser!(u8).range(0..=63))
 }
 
@@ -226,7 +227,7 @@ fn word_vcid_option<'a>(alloc: Global) -> Arg<'a>
 fn telemetry_vcid_option<'a>(alloc: Global) -> Arg<'a>
     ensures { IsArgument result telemetry_vcid }
 {
-    let help = "Lists the frames of this virtual channel alone, 0 to 7";
+    let help = "List only frames of this virtual channel, 0 to 7";
     option(alloc, "vcid", "V", help).value_parser(value_parser!(u8).range(0..=7))
 }
 
@@ -234,7 +235,7 @@ fn telemetry_vcid_option<'a>(alloc: Global) -> Arg<'a>
 fn map_option<'a>(alloc: Global) -> Arg<'a>
     ensures { IsArgument result map }
 {
-    let help = "Lists the packets of this MAP alone, 0 to 63; the receiver takes the frames of all";
+    let help = "List only packets of this MAP, 0 to 63; the receiver takes frames of all MAPs";
     option(alloc, "map", "M", help).value_parser(value_parser!(u8).range(0..=63))
 }
 
@@ -242,7 +243,7 @@ fn map_option<'a>(alloc: Global) -> Arg<'a>
 fn apid_option<'a>(alloc: Global) -> Arg<'a>
     ensures { IsArgument result apid }
 {
-    let help = "Lists the packets of this application process alone, 0 to 2047";
+    let help = "List only packets of this application process, 0 to 2047";
     option(alloc, "apid", "A", help).value_parser(value_parser!(u16).range(0..=2047))
 }
 
@@ -250,16 +251,16 @@ fn apid_option<'a>(alloc: Global) -> Arg<'a>
 fn length_option<'a>(alloc: Global) -> Arg<'a>
     ensures { IsArgument result length }
 {
-    option(alloc, "length", "F", "Octets of a frame, 16 to 2048")
+    option(alloc, "length", "F", "Frame length in octets, 16 to 2048")
         .required(true)
         .value_parser(value_parser!(u16).range(16..=2048))
 }
 
-// `--report`, whether control words have a line.
+// `--report`, whether CLCWs have a line.
 fn report_flag<'a>(alloc: Global) -> Arg<'a>
     ensures { IsArgument result report }
 {
-    let help = "Writes what the control word of each frame reports";
+    let help = "List what the CLCW of each frame reports";
     flag(alloc, "report", help)
 }
 
@@ -267,20 +268,21 @@ fn report_flag<'a>(alloc: Global) -> Arg<'a>
 fn check_flag<'a>(alloc: Global) -> Arg<'a>
     ensures { IsArgument result check }
 {
-    flag(alloc, "check", "The frames end with their check")
+    flag(alloc, "check", "Frames end with their check (FECF)")
 }
 
-// `--resync`, whether octets that are no good frame of the channel are skipped; the channel is wanted then.
+// `--resync`, whether octets that do not form a good frame of the channel are skipped. It requires the
+// channel.
 fn resync_flag<'a>(alloc: Global) -> Result<Arg<'a>, AllocError>
     ensures { IfOk result (λ argument. IsArgument argument resync) }
 {
-    let help = "Skips octets up to the next good frame of the channel";
+    let help = "Skip octets up to the next good frame of the channel";
     flag(alloc, "resync", help)
         .requires_arg("scid")?
         .requires_arg("vcid")
 }
 
-// The argument, with which `--check` is wanted.
+// Returns the argument, which then requires `--check`.
 fn needs_check<'a>(argument: Arg<'a>) -> Result<Arg<'a>, AllocError>
     requires { IsArgument argument resync }
     ensures { IfOk result (λ argument. IsArgument argument resync) }
@@ -288,11 +290,11 @@ fn needs_check<'a>(argument: Arg<'a>) -> Result<Arg<'a>, AllocError>
     argument.requires_arg("check")
 }
 
-// `--skip-invalid`, whether lines in which no octets are to stand are skipped.
+// `--skip-invalid`, whether lines not meant to carry octets are skipped.
 fn skip_invalid_flag<'a>(alloc: Global) -> Arg<'a>
     ensures { IsArgument result skip_invalid }
 {
-    let help = "Skips lines that are to have no octets, as those of refused records";
+    let help = "Skip lines not meant to carry octets, such as those of refused records";
     flag(alloc, "skip-invalid", help)
 }
 
@@ -300,14 +302,14 @@ fn skip_invalid_flag<'a>(alloc: Global) -> Arg<'a>
 fn blocking_flag<'a>(alloc: Global) -> Arg<'a>
     ensures { IsArgument result blocking }
 {
-    flag(alloc, "blocking", "A segment may hold several packets")
+    flag(alloc, "blocking", "Accept several packets in one segment")
 }
 
-// `--count`, whether totals are written in place of lines.
+// `--count`, whether totals are written instead of lines.
 fn count_flag<'a>(alloc: Global) -> Arg<'a>
     ensures { IsArgument result count }
 {
-    let help = "Writes the totals of the lines in place of them";
+    let help = "Write totals instead of lines";
     flag(alloc, "count", help)
 }
 
@@ -321,7 +323,7 @@ fn file_argument<'a>(alloc: Global, help: &'a str) -> Arg<'a>
         .action(ArgAction::Set)
 }
 
-// `[FILE]`; standard input where there is none.
+// `[FILE]`; standard input if there is none.
 fn input_argument<'a>(alloc: Global, help: &'a str) -> Arg<'a>
     ensures { IsArgument result input }
 {

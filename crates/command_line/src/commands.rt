@@ -1,4 +1,4 @@
-// The commands of the tool, and the words of the command line.
+// The commands of the tool, and the arguments of the command line.
 
 ghost use Rattle.std.specs.Prelude.{IfOk, IfErr, IfSome};
 ghost use Rattle.command_line.specs.Arguments.{GivesAll, IsBare, wanted_of};
@@ -27,7 +27,7 @@ pub enum Named {
 }
 
 impl<'a> Described<'a> {
-    // The command of this name.
+    // Returns the command with this name.
     fn of(name: &str) -> Option<Described<'static>> {
         for described in COMMANDS {
             if described.name == name {
@@ -37,7 +37,7 @@ impl<'a> Described<'a> {
         None
     }
 
-    // The command with no argument yet.
+    // Returns the command with no argument yet.
     fn bare(self, alloc: Global) -> Result<Command<'a>, AllocError>
         ensures { IfOk result IsBare }
     {
@@ -45,7 +45,7 @@ impl<'a> Described<'a> {
         Ok(named.about(self.about).after_help(self.ending))
     }
 
-    // The words of the command, its name first, as they were given.
+    // Parses the arguments of the command, its name first.
     fn given(self, alloc: Global, words: &'a [&'a str]) -> Result<ArgMatches<'a>, Error>
         ensures { IfOk result (λ given. GivesAll given (wanted_of self.entry.command)) }
     {
@@ -57,7 +57,7 @@ impl<'a> Described<'a> {
         command.try_get_matches_from(words)
     }
 
-    // What the words of the command ask for, its name first.
+    // Returns what the arguments of the command request. Its name comes first.
     fn options(self, alloc: Global, words: &'a [&'a str]) -> Result<Options<'a>, UsageFault>
         ensures range { IfOk result (λ options. IsInRange options.task) }
         ensures odd { IfErr result IsOddIfWidth }
@@ -71,7 +71,8 @@ impl<'a> Described<'a> {
     }
 }
 
-// Whether the words have `--vr first`, or another word for the number. What stands after `--` is a file.
+// Returns whether the arguments contain `--vr first`, or another word for the number. What follows `--`
+// is a file.
 fn has_word_for_vr(words: &[&str]) -> bool {
     let mut before = "";
     for word in words {
@@ -86,7 +87,8 @@ fn has_word_for_vr(words: &[&str]) -> bool {
     false
 }
 
-// The value of `--vr` that a word has, after the word before it; nothing where it has none.
+// Returns the value of `--vr` that an argument contains, after the argument before it; empty if it
+// contains none.
 fn value_of_vr<'a>(before: &str, word: &'a str) -> &'a [u8] {
     match word.as_bytes() {
         [b'-', b'-', b'v', b'r', b'=', value @ ..] => value,
@@ -99,11 +101,11 @@ fn begins_with_letter(value: &[u8]) -> bool {
     matches!(value, [b'a'..=b'z' | b'A'..=b'Z', ..])
 }
 
-/// Reads the words of a command line, the program's name first. The numbers of the task that it returns
-/// are in their ranges.
+/// Reads the arguments of a command line, the program's name first. The numbers of the task that it
+/// returns are in range.
 ///
-/// The fault `Words` is what the parser answers to words that it refuses, or to a request for help or
-/// the version; `OddWidth` an odd width, where the words are else in order.
+/// The fault `Words` is what the parser answers to arguments that it refuses, or to a request for
+/// help or the version. `OddWidth` is an odd width, in arguments that are otherwise valid.
 /// Faults: Words, OddWidth. Memory: yes. Cost: n.
 pub fn options<'a>(alloc: Global, words: &'a [&'a str]) -> Result<Options<'a>, UsageFault>
     ensures range { IfOk result (λ options. IsInRange options.task) }
@@ -122,7 +124,7 @@ pub fn options<'a>(alloc: Global, words: &'a [&'a str]) -> Result<Options<'a>, U
     Err(UsageFault::Words(other_words(alloc, words)))
 }
 
-// What `help` answers for a command.
+// Returns what `help` answers for a command.
 fn help_of(alloc: Global, name: &str) -> Option<UsageFault>
     ensures { IfSome result IsOddIfWidth }
 {
@@ -130,7 +132,7 @@ fn help_of(alloc: Global, name: &str) -> Option<UsageFault>
     command.options(alloc, &[name, "--help"]).err()
 }
 
-// What the parser answers where no command is named: help that was asked for, or what is wrong.
+// Returns what the parser answers if no command is named: the requested help, or what is wrong.
 fn other_words(alloc: Global, words: &[&str]) -> Error {
     match no_command(alloc, words) {
         Ok(error) => error,
@@ -146,7 +148,7 @@ fn no_command<'a>(alloc: Global, words: &'a [&'a str]) -> Result<Error, AllocErr
     }
 }
 
-// The tool with each of its commands, none of which is read further.
+// Returns the tool with each of its commands. Their arguments are not read.
 fn every_command<'a>(alloc: Global) -> Result<Command<'a>, AllocError> {
     let mut command = Command::new(alloc, "tctool")
         .about("Tools for the telecommand link")

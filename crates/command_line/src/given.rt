@@ -1,4 +1,4 @@
-// What the words of a command give.
+// The values that the arguments of a command give.
 
 ghost use Rattle.std.specs.Prelude.{◌≡◌, ◌≤◌, IfOk, IfErr, IfSome};
 ghost use Rattle.cop1.specs.Farm.{IsWidth};
@@ -12,7 +12,7 @@ use crate::task::{Channel, MapPart, Part, Searched, Task, UsageFault};
 use clap::ArgMatches;
 
 impl Named {
-    /// What the words of the command ask for.
+    /// Returns what the arguments of the command request.
     pub fn task(self, given: &ArgMatches<'_>) -> Result<Task, UsageFault>
         requires { GivesAll given.now (wanted_of self) }
         ensures range { IfOk result IsInRange }
@@ -65,7 +65,7 @@ impl Named {
         })
     }
 
-    // The channel whose good frames are searched for, where they are.
+    // Returns the channel whose good frames are searched for, if they are.
     fn searched_channel(self, given: &ArgMatches<'_>) -> Option<(u16, u8)>
         requires { GivesAll given.now (wanted_of self) }
         ensures { IfSome result (λ c. (c.0 ≤ 1023) × (c.1 ≤ 63)) }
@@ -78,7 +78,7 @@ impl Named {
         }
     }
 
-    // What is listed of those.
+    // Returns what is listed for those frames.
     fn searched(self, given: &ArgMatches<'_>) -> Result<Option<Searched>, UsageFault>
         requires { GivesAll given.now (wanted_of self) }
         ensures range { IfOk result (λ listed. IfSome listed IsSearched) }
@@ -103,7 +103,7 @@ impl Named {
         })
     }
 
-    /// Whether the totals of the lines are asked for; not where no file is listed.
+    /// Returns whether the totals of the lines are requested; false if no file is listed.
     pub fn count(self, given: &ArgMatches<'_>) -> bool
         requires { GivesAll given.now (wanted_of self) }
     {
@@ -113,7 +113,7 @@ impl Named {
         }
     }
 
-    /// The name of the file; standard input where none is given of those that play a node.
+    /// Returns the name of the file. It is standard input for a node that is run with no file.
     pub fn file<'a>(self, given: &ArgMatches<'a>) -> &'a str
         requires { Gives given.now (file_of self) }
     {
@@ -124,7 +124,7 @@ impl Named {
     }
 }
 
-// The width that is given, or else 254, where it is even.
+// Returns the given width, or else 254, if it is even.
 fn width_given(given: &ArgMatches<'_>) -> Result<u8, UsageFault>
     requires { Gives given.now width }
     ensures even { IfOk result IsWidth }
@@ -137,12 +137,12 @@ fn width_given(given: &ArgMatches<'_>) -> Result<u8, UsageFault>
     Ok(width)
 }
 
-// The number of the first frame, or else 0.
+// Returns the number of the first frame, or else 0.
 fn vr_given(given: &ArgMatches<'_>) -> u8 {
     given.get_one::<u8>("vr").unwrap_or(0)
 }
 
-// Whether the number of the first frame is that of the first one in the file.
+// Returns whether the number of the first frame is that of the first frame in the file.
 fn is_from_first(given: &ArgMatches<'_>) -> bool {
     given.get_str("vr") == Some(FIRST)
 }
@@ -168,7 +168,7 @@ fn telemetry_vcid_given(given: &ArgMatches<'_>) -> Option<u8>
     given.get_one::<u8>("vcid")
 }
 
-// The channel of telecommand frames.
+// Returns the channel of telecommand frames.
 fn channel_given(given: &ArgMatches<'_>) -> Channel
     requires scid { Gives given.now scid }
     requires vcid { Gives given.now vcid }
@@ -180,7 +180,7 @@ fn channel_given(given: &ArgMatches<'_>) -> Channel
     }
 }
 
-// The channel of telemetry frames.
+// Returns the channel of telemetry frames.
 fn telemetry_channel_given(given: &ArgMatches<'_>) -> Channel
     requires scid { Gives given.now scid }
     requires vcid { Gives given.now telemetry_vcid }
@@ -192,7 +192,7 @@ fn telemetry_channel_given(given: &ArgMatches<'_>) -> Channel
     }
 }
 
-// The channel, where any of it is given.
+// Returns the channel, if any of it is given.
 fn some_channel(channel: Channel) -> Option<Channel>
     ensures { IfSome result (λ c. c ≡ channel) }
 {
@@ -216,7 +216,7 @@ fn part_given(given: &ArgMatches<'_>) -> Part
     }
 }
 
-// What a receiver takes, where that is not all.
+// Returns what a receiver takes, if that is not everything.
 fn some_part(part: Part) -> Option<Part>
     ensures { IfSome result (λ p. p ≡ part) }
 {
@@ -226,7 +226,7 @@ fn some_part(part: Part) -> Option<Part>
     }
 }
 
-// What a receiver takes, and the MAP, where that is not all.
+// Returns what a receiver takes, and the MAP, if that is not everything.
 fn map_part_given(given: &ArgMatches<'_>) -> Option<MapPart>
     requires scid { Gives given.now scid }
     requires vcid { Gives given.now vcid }
@@ -254,7 +254,7 @@ fn apid_given(given: &ArgMatches<'_>) -> Option<u16>
     given.get_one::<u16>("apid")
 }
 
-// The length of a frame.
+// Returns the length of a frame.
 fn length_given(given: &ArgMatches<'_>) -> u16
     requires { Gives given.now length }
     ensures { (16 ≤ result) × (result ≤ 2048) }

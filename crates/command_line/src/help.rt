@@ -7,17 +7,17 @@ use crate::commands::Named;
 pub struct Described<'a> {
     pub command: Named,
     pub name: &'a str,
-    /// The program and the command, as usage is shown.
+    /// The program and the command, as usage shows them.
     pub bin_name: &'a str,
     pub about: &'a str,
     /// What its `FILE` is.
     pub file: &'a str,
-    /// What stands at the end of its help.
+    /// The end of its help.
     pub ending: &'a str,
 }
 
-/// The end of a help: a line of output, or of input after the word that says so, what more there is to say,
-/// and the statuses.
+/// The end of a help text: an example line of output (or of input, after the verb), what else there is to
+/// state, and the statuses.
 macro_rules! ending_of_help {
     ($line:literal $(, $more:literal)*) => {
         ending_of_help!("Writes"; $line $(, $more)*)
@@ -29,13 +29,13 @@ macro_rules! ending_of_help {
             $line,
             "\n\n",
             $($more,)*
-            "Status: 0 where all is good, 1 for a fault in the data, 2 for usage,\n",
-            "3 where a file or memory failed or the input was too long"
+            "Status: 0 if all is good, 1 for a fault in the data, 2 for usage,\n",
+            "3 if a file or memory failed or the input was too long"
         )
     };
 }
 
-/// The end of a help where telecommand frames are read, with their faults.
+/// The end of the help of a command that reads telecommand frames, with their faults.
 macro_rules! ending_of_frames {
     ($line:literal $(, $more:literal)*) => {
         ending_of_help!(
@@ -48,15 +48,15 @@ macro_rules! ending_of_frames {
             "  5 Length             the declared length is not the frame's, or too small\n",
             "  6 Check              the last two octets are not the check of the others\n",
             "  7 BypassNumber       N(S) of a Type-BD or Type-BC frame is not 0\n",
-            "  8 EmptyData          no data, or a segment header alone\n",
-            "  9 Command            the data of a Type-BC frame are no command\n\n",
+            "  8 EmptyData          no data, or only a segment header\n",
+            "  9 Command            the data of a Type-BC frame are not a command\n\n",
             $($more,)*
             "Without --scid and --vcid all frames are taken as those of one channel.\n\n"
         )
     };
 }
 
-/// The end of a help where lines are read that a node is asked.
+/// The end of the help of a command that reads the lines of a node.
 macro_rules! ending_of_lines {
     ($line:literal, $($more:literal),*) => {
         ending_of_help!(
@@ -79,7 +79,7 @@ pub const COMMANDS: [Described<'static>; 11] = [
         command: Named::Farm,
         name: "farm",
         bin_name: "tctool farm",
-        about: "Lists what a receiver (FARM-1) makes of each frame",
+        about: "List what a receiver (FARM-1) does with each frame",
         file: FRAMES,
         ending: ending_of_frames!(
             "3 BC unlock Open vr=0 l=0 w=0 t=0 b=1",
@@ -90,7 +90,7 @@ pub const COMMANDS: [Described<'static>; 11] = [
         command: Named::Map,
         name: "map",
         bin_name: "tctool map",
-        about: "Lists the packets out of the frames that a receiver accepts",
+        about: "List the packets in the frames that a receiver accepts",
         file: FRAMES,
         ending: ending_of_help!(
             "packet 4 1005C0000000AA",
@@ -109,7 +109,7 @@ pub const COMMANDS: [Described<'static>; 11] = [
         command: Named::Tc,
         name: "tc",
         bin_name: "tctool tc",
-        about: "Lists the fields of each telecommand frame",
+        about: "List the fields of each telecommand frame",
         file: FRAMES,
         ending: ending_of_frames!("1 AD scid=1 vcid=2 n=3 seg=3 map=4 data=1005C0000000AA"),
     },
@@ -117,13 +117,13 @@ pub const COMMANDS: [Described<'static>; 11] = [
         command: Named::Tm,
         name: "tm",
         bin_name: "tctool tm",
-        about: "Lists the fields of each telemetry frame, and the packets that it ends",
+        about: "List the fields of each telemetry frame, and the packets that it finishes",
         file: "Telemetry frames, one after another",
         ending: ending_of_help!(
             "1 scid=1 vcid=0 mc=0 vc=0 pointer=0 ocf=01080000 gap=-",
             "and under --report the line of tctool clcw, without its number\n\n",
             "Faults of a frame, the first that applies:\n",
-            "  1 Length             not as many octets as --length says\n",
+            "  1 Length             not the number of octets that --length gives\n",
             "  2 Version            the version number is not 00\n",
             "  3 Check              the last two octets are not the check of the others\n",
             "  4 Status             a status flag is not 0, or segment length not 11\n",
@@ -136,26 +136,26 @@ pub const COMMANDS: [Described<'static>; 11] = [
         command: Named::Clcw,
         name: "clcw",
         bin_name: "tctool clcw",
-        about: "Lists what each control word (CLCW) reports",
-        file: "Control words of four octets, one after another",
+        about: "List what each control word (CLCW) reports",
+        file: "CLCWs of four octets, one after another",
         ending: ending_of_help!(
             "1 report vcid=2 vr=0 l=0 w=0 t=0 b=0 status=0 rf=0 lock=0",
             "l, w and t are the flags lockout, wait and retransmit, and b is FARM-B.\n",
-            "rf=1 says that no radio frequency is available, lock=1 that there is no bit lock.\n",
-            "\nFaults of a control word, the first that applies:\n",
+            "rf=1 means that no radio frequency is available, lock=1 that there is no bit lock.\n",
+            "\nFaults of a CLCW, the first that applies:\n",
             "  1 Kind               the type is not 0\n",
             "  2 Version            the version number is not 00\n",
             "  3 Cop                the COP in effect is not 01, COP-1\n",
             "  4 Spare              a spare bit is not 0\n",
-            "  6 Short              the file ends within the control word\n",
-            "\nWithout --vcid the control words of all virtual channels are listed.\n\n"
+            "  6 Short              the file ends within the CLCW\n",
+            "\nWithout --vcid the CLCWs of all virtual channels are listed.\n\n"
         ),
     },
     Described {
         command: Named::Check,
         name: "check",
         bin_name: "tctool check",
-        about: "Lists the telecommand frames with check that are refused",
+        about: "List the refused frames among telecommand frames with check",
         file: "Telecommand frames with check, one after another",
         ending: ending_of_frames!("2 invalid 6 Check"),
     },
@@ -163,7 +163,7 @@ pub const COMMANDS: [Described<'static>; 11] = [
         command: Named::Packets,
         name: "packets",
         bin_name: "tctool packets",
-        about: "Lists the fields of each space packet",
+        about: "List the fields of each space packet",
         file: "Space packets, one after another",
         ending: ending_of_help!(
             "1 TC secondary=0 apid=5 flags=3 count=0 gap=- data=AA",
@@ -178,24 +178,24 @@ pub const COMMANDS: [Described<'static>; 11] = [
         command: Named::Encode,
         name: "encode",
         bin_name: "tctool encode",
-        about: "Writes the octets of lines as the other commands write them",
-        file: "Lines, one for each frame, packet or control word, with or without their numbers",
+        about: "Write the octets of lines in the form that other commands write",
+        file: "Lines, one for each frame, packet or CLCW, with or without their numbers",
         ending: ending_of_help!(
             "Reads";
             "1 AD scid=1 vcid=2 n=3 seg=3 map=4 data=1005C0000000AA",
-            "and writes the frame or the packet of each, or the octets after the words\n",
+            "and writes the frame or packet of each, or the octets after the words\n",
             "  packet HEX, sent HEX, frame HEX, telemetry HEX, report HEX, clcw HEX\n",
             "  packet M HEX, bypass M HEX, submit M HEX\n",
-            "A line that is empty or begins with # has none. Nothing is written of a line that\n",
-            "is unreadable, or after it. --skip-invalid skips the lines in which no octets are\n",
-            "to stand, as \"2 invalid 6 Check\" and \"ok\".\n\n"
+            "Empty lines and lines that begin with # have no octets. Nothing is written for an\n",
+            "unreadable line, nor for the lines after it. --skip-invalid skips lines not meant\n",
+            "to carry octets, such as \"2 invalid 6 Check\" and \"ok\".\n\n"
         ),
     },
     Described {
         command: Named::Sim,
         name: "sim",
         bin_name: "tctool sim",
-        about: "Plays a script of the simulated link",
+        about: "Run a script of the simulated link",
         file: "A script, a line for each event",
         ending: ending_of_lines!(
             "AD 0 accepted ready",
@@ -212,11 +212,11 @@ pub const COMMANDS: [Described<'static>; 11] = [
         command: Named::Ground,
         name: "ground",
         bin_name: "tctool ground",
-        about: "Plays a ground (FOP-1), answering each line before it reads more",
-        file: "Lines, one for each call; standard input if it is not given",
+        about: "Act as a ground (FOP-1), and answer each line before more is read",
+        file: "Lines, one for each call; standard input if not given",
         ending: ending_of_lines!(
             "sent 0001080E00C41005C0000000AAE75D",
-            "The lines that it reads, config before all others:\n",
+            "Its lines, config before all others:\n",
             "  config FIELD N, submit M HEX, bypass M HEX, telemetry HEX, clcw HEX\n",
             "  init none, init check, init unlock, init set X, terminate, resume X\n",
             "  vs X, window X, limit X, timer X\n",
@@ -227,11 +227,11 @@ pub const COMMANDS: [Described<'static>; 11] = [
         command: Named::Spacecraft,
         name: "spacecraft",
         bin_name: "tctool spacecraft",
-        about: "Plays a spacecraft (FARM-1), answering each line before it reads more",
-        file: "Lines, one for each call; standard input if it is not given",
+        about: "Act as a spacecraft (FARM-1), and answer each line before more is read",
+        file: "Lines, one for each call; standard input if not given",
         ending: ending_of_lines!(
             "AD 0 accepted ready",
-            "The lines that it reads, config before all others:\n",
+            "Its lines, config before all others:\n",
             "  config FIELD N, frame HEX, telemetry HEX\n",
             "  send, report, take, takebypass, show\n"
         ),

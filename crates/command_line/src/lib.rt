@@ -1,5 +1,5 @@
-//! The command line of `tctool`: its commands with the words that each takes, what these words ask for,
-//! and the help. No file is opened here, and nothing is written.
+//! The command line of `tctool`: its commands with their arguments, what the arguments request, and the
+//! help. No file is opened here, and nothing is written.
 #![tactic(auto)]
 
 mod arguments;

@@ -1,4 +1,4 @@
--- Each record on board lies between what a status has said and what has gone up.
+-- Each record on board lies between what a status has reported and what has been sent.
 use Rattle.std.proofs.Common.{◌≡◌, ℕ, ◌+◌, ◌<◌, ◌≤◌, inl, inr, List, ◌∷◌, Bool, true, false, Option, Some, None}
 use Rattle.std.proofs.Common.{refl, sym, arith, subst, IfSome, Result, Ok, Err}
 use Rattle.std.specs.Prelude.{⊤, nat_eq, if◌then◌else◌}
@@ -124,7 +124,7 @@ between_at_start high said (Some one) two mark is = is.first
 between_at_start high said None (Some two) mark is = is.second
 between_at_start high said None None mark is = tt
 
--- the next command is one that has gone up
+-- the next command is one that was sent
 taken_between : (high : ℕ) (said : List Record) (kept : Record) (packet : List ℕ) (stage : Stage)
     → is_at_rest stage ≡ true → BetweenAt high said kept stage → kept.last + 1 ≤ high
     → IsBetween high said (begun kept packet)
@@ -148,7 +148,7 @@ ordered_between high said kept WritesFirst e is = absurd cc
 ordered_between high said kept WritesSecond e is = absurd cc
 ordered_between high said kept Executes e is = absurd cc
 
--- what is assumed of an order that brings a record, and that the board obeys
+-- the assumption about an order that brings a record and that the board obeys
 abbrev pub BringsHighest : ℕ → List Record → ExecutorState → Result Order LogFault → Type 0
 BringsHighest high said s (Err e) = ⊤
 BringsHighest high said s (Ok (orders.Restart boot)) = ⊤
@@ -214,7 +214,7 @@ between_step high said b (Spoils First) comes holds h =
 between_step high said b (Spoils Second) comes holds h =
     record { copies = record { first = h.copies.first; second = tt }; kept = h.kept }
 
--- ---- a packet is sent, a status is made
+-- ---- a packet is sent, a status is reported
 
 higher : (high more : ℕ) (said : List Record) (kept : Record) → high ≤ more → IsBetween high said kept
     → IsBetween more said kept
@@ -263,7 +263,7 @@ said_more high said new kept low is =
       no_more = is.no_more;
     }
 
--- a copy that is the record that is said
+-- a copy is the record that is reported
 said_of_copies : (high : ℕ) (said : List Record) (kept : Record) (place : Option Record)
     → HasNoOther place kept
     → IsBetween high said kept → IfSome place (IsBetween high (kept ∷ said))
@@ -309,7 +309,7 @@ between_said high said ns ws one two kept RepairsSecond new e at is = absurd cc
 between_said high said ns ws one two kept WritesFirst new e at is = absurd cc
 between_said high said ns ws one two kept WritesSecond new e at is = absurd cc
 
--- the last of a status is at least that of each status before it
+-- the last number of a status is at least the last number of each earlier status
 pub no_less_said : (high : ℕ) (said : List Record) (kept : Record) (stage : Stage) (new : Record)
     → status_at kept stage ≡ Says new → BetweenAt high said kept stage → (earlier : Record) → IsAmong earlier said
     → earlier.last ≤ new.last

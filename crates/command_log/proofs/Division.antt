@@ -1,4 +1,4 @@
--- The register of 32 bits does what the division does, a bit at a time.
+-- The 32-bit register performs the division bit by bit.
 use Rattle.std.proofs.Common.{◌≡◌, ℕ, zero, suc, ◌+◌, ◌-◌, ◌*◌, ◌/◌, ◌%◌, ◌^◌, ◌<◌, ◌≤◌, Bool, true, false, cond, eqb}
 use Rattle.std.proofs.Common.{List, [], ◌∷◌, ◌++◌, length, drop, refl, sym, ap, ◌∙◌, arith, append_assoc}
 use Rattle.std.proofs.Common.{length-append}
@@ -46,7 +46,7 @@ low_bits-zero : (n : ℕ) → low_bits n 0 ≡ replicate n false
 low_bits-zero zero = refl
 low_bits-zero (suc n) = ap (λ (bits : List Bool). false ∷ bits) (low_bits-zero n)
 
--- a small number has zeros above
+-- a small number has zeros in its higher bits
 low_bits-small : (k n x : ℕ) → x < 2 ^ k → low_bits (k + n) x ≡ low_bits k x ++ replicate n false
 low_bits-small zero n x h =
     let none : x ≡ 0 = omega arith in
@@ -77,7 +77,7 @@ number_again (suc n) x h =
 abbrev bits_left : ℕ → List ℕ → List Bool
 bits_left zeros octets = replicate zeros false ++ (octet_bits octets ++ replicate 32 false)
 
--- what the division gives from here on, with a register over the bits that are left
+-- the rest of the division, with the register over the bits that are left
 unfoldable pub divided : ℕ → ℕ → List ℕ → List Bool
 divided register zeros octets =
     remainder (zeros + 8 * length octets) (sum_without_carries (low_bits 32 register) (bits_left zeros octets))
@@ -122,7 +122,7 @@ one_step b low n rest =
     ap (λ (c : Bool). remainder n (cond c (sum_without_carries generator_rest (sum_without_carries low rest))
     (sum_without_carries low rest))) (bit_sum-false b)
 
--- the register that is moved on by a bit, as bits
+-- the register shifted by one bit, as bits
 moved_on : (half : ℕ) (rest : List Bool) → half < 2 ^ 31 → 32 ≤ length rest
     → sum_without_carries (low_bits 32 half) rest ≡ sum_without_carries (low_bits 31 half) rest
 moved_on half rest small h =
@@ -132,7 +132,7 @@ moved_on half rest small h =
 generator_is : low_bits 32 0xEDB88320 ≡ generator_rest
 generator_is = refl
 
--- either way of the step of the register
+-- either case of the register's step
 stepped : (b : Bool) (half : ℕ) (rest : List Bool) → half < 2 ^ 31 → 32 ≤ length rest
     → sum_without_carries (low_bits 32 (cond b (bit_xor half 0xEDB88320) half)) rest
     ≡ cond b (sum_without_carries generator_rest (sum_without_carries (low_bits 31 half) rest))
@@ -145,7 +145,7 @@ stepped true half rest small h =
     ∙ sum-assoc generator_rest (low_bits 32 half) rest
     ∙ ap (sum_without_carries generator_rest) (moved_on half rest small h)
 
--- one bit more
+-- one more bit
 pub takes_bit : (r zeros : ℕ) (xs : List ℕ) → r < 2 ^ 32 → divided (register_step r) zeros xs ≡ divided r (suc zeros) xs
 unfolding divided
 takes_bit r zeros xs small =
@@ -161,7 +161,7 @@ takes_bits zero r xs small = refl
 takes_bits (suc n) r xs small =
     takes_bits n (register_step r) xs (register_fits r small) ∙ takes_bit r n xs small
 
--- an octet of those that are left
+-- one of the octets that are left
 pub takes_octet_at : (r next i : ℕ) (octets : List ℕ) → r < 2 ^ 32 → i < length octets
     → slice_index octets i < 2 ^ 8 → next ≡ register_after 8 (bit_xor r (slice_index octets i))
     → divided next 0 (drop (i + 1) octets) ≡ divided r 0 (drop i octets)
@@ -172,7 +172,7 @@ takes_octet_at r next i octets small lt octet e =
     ∙ takes_octet r x (drop (i + 1) octets) octet
     ∙ ap (divided r 0) (sym (drop_more octets i 0 lt))
 
--- nothing is left but the register
+-- only the register is left
 pub divided_all : (r : ℕ) → r < 2 ^ 32 → number_of_low_bits (divided r 0 []) ≡ r
 unfolding divided remainder
 divided_all r small =
@@ -181,7 +181,7 @@ divided_all r small =
     sum-comm (low_bits 32 r) (replicate 32 false) ∙ sum-zeros 32 (low_bits 32 r) long in
     ap number_of_low_bits bits ∙ number_again 32 r small
 
--- at first the register has ones
+-- at first the register is all ones
 pub divided_first : (octets : List ℕ) → 4294967295 - number_of_low_bits (divided 0xffffffff 0 octets) ≡ check_of octets
 unfolding divided check_of
 divided_first octets =
@@ -189,7 +189,7 @@ divided_first octets =
     ap (λ (n : ℕ). 4294967295 - number_of_low_bits (remainder n
     (sum_without_carries (replicate 32 true) (octet_bits octets ++ replicate 32 false)))) count
 
--- then it has those of another check
+-- then it has the bits of another check
 pub divided_after : (check : ℕ) (octets : List ℕ)
     → 4294967295 - number_of_low_bits (divided (4294967295 - check) 0 octets) ≡ check_after check octets
 unfolding divided check_after

@@ -160,7 +160,8 @@ pub are_both : (a b : Bool) → a ≡ true → b ≡ true → (a && b) ≡ true
 are_both true b e f = f
 are_both false b e f = absurd cc
 
-holds_sealed : (front : List ℕ) → holds_check (sealed front) ≡ true
+-- octets that end with their check hold it
+pub holds_sealed : (front : List ℕ) → holds_check (sealed front) ≡ true
 holds_sealed front =
     let tail : List ℕ = big_bytes 4 (check_of front) in
     let n : ℕ = length (sealed front) - 4 in
@@ -378,7 +379,7 @@ with_flags kind boot last mark false true order e f is =
     ∙ ap (λ (m : ℕ). front_with 1 boot 0 m) (eqb-true mark 0 parts.1) ∙ ap order_front same
 with_flags kind boot last mark false false order e f is = absurd cc
 
--- the front of an order, by its fields
+-- the front of an order, from its fields
 body_of_order : (octets : List ℕ) → IsOctets octets → length octets ≡ 23
     → body_in octets
     ≡ front_with (slice_index octets 6) (big_number 4 (drop 7 octets)) (big_number 4 (drop 11 octets))

@@ -22,7 +22,7 @@ use Rattle.command_log.specs.Board.{after_doing, after_break}
 use Rattle.command_log.specs.NeverLost.{are_both_good, still_spoiled, IsMild, AreMild, EachKeepsItsRecord}
 use Rattle.command_log.proofs.Steps.{both, taken_parts}
 
--- if no copy is spoiled: the copies that are good at each stage, so that a torn write spoils only one
+-- if no copy is spoiled: the copies that are good at each stage; a torn write spoils only one
 abbrev pub GoodAt : Option Record → Option Record → Stage → Type 0
 GoodAt one two (Lost mark) = ⊥
 GoodAt one two RepairsFirst = is_some two ≡ true
@@ -81,7 +81,7 @@ one_by : (spoiled : Bool) (one two : Option Record) (stage : Stage) → GoodBy s
 one_by true one two stage is = is
 one_by false one two stage is = one_of one two stage is
 
--- the stages that the calls lead to are those that need both
+-- the calls lead only to stages that need both copies
 by_calls : (spoiled : Bool) (one two : Option Record) (stage : Stage) → is_at_rest stage ≡ true
     → GoodBy spoiled one two stage
     → GoodBy spoiled one two WritesFirst
@@ -117,7 +117,7 @@ written_not_lost : (kept : Record) (flag : Bool) → has_lost (after_writes kept
 written_not_lost kept true = refl
 written_not_lost kept false = refl
 
--- an action that is done
+-- an action that is completed
 done_good : (b : Board) (kept : Record) (stage : Stage) → GoodAt b.first b.second stage
     → GoodAt (after_doing b (action_at kept stage)).first (after_doing b (action_at kept stage)).second
     (after_action kept stage).stage
@@ -154,7 +154,7 @@ broken_good b kept Executes is = inl is.0
 broken_good b kept Rests is = inl is.0
 broken_good b kept Ordered is = inl is.0
 
--- whether it is mended
+-- whether the copy is repaired
 mended : (good : Bool) (one two : Option Record) (stage : Stage) → (is_some one && is_some two) ≡ good
     → OneIsGood one two stage → GoodBy (not good) one two stage
 mended false one two stage e is = is
@@ -169,7 +169,7 @@ acts_good true b is =
     mended (are_both_good (board_step b Acts)) (board_step b Acts).first (board_step b Acts).second
     (board_step b Acts).executor.stage refl (done_one b b.executor.kept b.executor.stage is)
 
--- a mark is that of a loss
+-- a stage with a mark is a loss
 marked_is_lost : (stage : Stage) (mark : ℕ) → has_mark stage mark ≡ true → has_lost stage ≡ true
 marked_is_lost (Lost of_loss) mark e = refl
 marked_is_lost Rests mark e = absurd cc

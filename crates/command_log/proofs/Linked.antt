@@ -1,4 +1,4 @@
--- What is begun on board was sent, under the number that the board gives it.
+-- Each command that begins on board was sent with the number that the board gives to it.
 use Rattle.std.proofs.Common.{◌≡◌, ℕ, ◌+◌, ◌<◌, ◌≤◌, inl, inr, min, List, [], ◌∷◌, Bool, true, false, Option}
 use Rattle.std.proofs.Common.{Some, None, Result, Ok, Err}
 use Rattle.std.proofs.Common.{refl, sym, ◌∙◌, arith, subst}
@@ -30,7 +30,7 @@ HaveNumbers (packet ∷ packets) (n ∷ ns) = (number_in packet ≡ n) × HaveNu
 HaveNumbers [] (n ∷ ns) = ⊥
 HaveNumbers (packet ∷ packets) [] = ⊥
 
--- the packet that was taken last is the next command, if the record has it as begun
+-- the packet that was taken last is the next command, if the record has the command as begun
 abbrev pub IsHeld : List (List ℕ) → List ℕ → Record → Type 0
 IsHeld sent held kept = (number_in held ≡ kept.last + 1) × IsAmong held sent
 
@@ -132,7 +132,7 @@ obeyed_too sent s held (Ok (Rebuild mark boot last)) is =
     cond_both (is_obeyed s (Rebuild mark boot last)) (at_stage (no_commands boot last) WritesFirst) s
     (λ (after : ExecutorState). HeldAt sent held after.kept after.stage) (λ t. λ begun. absurd (cc begun)) (λ f. is)
 
--- what is assumed of an event
+-- the assumption about an event
 abbrev pub IsFromSent : List (List ℕ) → Event → Type 0
 IsFromSent sent (Offers octets) = is_command octets ≡ true → IsAmong octets sent
 IsFromSent sent (Orders octets) = ⊤
@@ -200,7 +200,7 @@ linked_more sent packet b h =
       holds = held_more sent packet b.held b.executor.kept b.executor.stage h.holds;
     }
 
--- ---- what follows of it
+-- ---- consequences
 
 pub in_order : (bound : ℕ) (packets : List (List ℕ)) (ns : List ℕ) → HaveNumbers packets ns → AreBelow bound ns
     → AreInOrder bound packets

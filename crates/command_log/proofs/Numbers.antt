@@ -1,4 +1,4 @@
--- Numbers that fall, and the bits of what is known.
+-- Decreasing numbers, and the bits of what is known.
 use Rattle.std.proofs.Common.{◌≡◌, ℕ, ◌+◌, ◌-◌, ◌*◌, ◌/◌, ◌%◌, ◌^◌, ◌<◌, ◌≤◌, min, List, [], ◌∷◌, sym, ◌∙◌, ap, arith}
 use Rattle.std.proofs.Common.{subst}
 use Rattle.std.specs.Prelude.{◌⊎◌}
@@ -19,7 +19,7 @@ low_bit known k i low =
     let whole : known ≡ known / 2 ^ k * 2 ^ k + known % 2 ^ k = omega arith in
     sym (ap (λ (n : ℕ). bit_at n i) whole ∙ bit_at_cat_low (known / 2 ^ k) k (known % 2 ^ k) i low)
 
--- the remainder has the number's bits below the 63rd, and none from there on
+-- the remainder has the number's bits below the 63rd, and zeros from there on
 kept_bit : (known i : ℕ) → bit_at (known % 2 ^ 63) i ≡ 1 → bit_at known i ≡ 1
 kept_bit known i is =
     elim (cases_lt i 63) as (λ _. bit_at known i ≡ 1) [

@@ -1,4 +1,4 @@
--- What holds of a ground and a board, and that each deed keeps it.
+-- An invariant of a ground and a board, which each deed preserves.
 use Rattle.std.proofs.Common.{◌≡◌, ℕ, zero, suc, ◌+◌, ◌-◌, ◌≤◌, min, max, inl, inr, List, [], ◌∷◌, ◌++◌, Some, None}
 use Rattle.std.proofs.Common.{refl, sym, ◌∙◌, ap, subst, append_assoc, arith, eqb-true, Bool, true, false, Option}
 use Rattle.std.proofs.Common.{Result, Ok, Err}
@@ -38,12 +38,13 @@ use Rattle.command_log.proofs.Linked.{has_command, below_sent}
 number_up : (high last n : ℕ) → n ≤ high → high ≤ last → n ≤ last
 number_up high last n low up = omega arith
 
--- an order that brings a record to a board whose loss has this mark is above what was begun and said
+-- an order that brings a record to a board whose loss has this mark has a last above everything
+-- begun and reported
 abbrev pub IsAbove : List Record → List ℕ → ℕ → Type 0
 IsAbove said begun last =
     AreBelow (last + 1) begun × ((earlier : Record) → IsAmong earlier said → earlier.last ≤ last)
 
--- an order that has gone up brings nothing that was not meant for this loss
+-- an order that was sent brings nothing that was not meant for this loss
 abbrev pub Suits : List ℕ → List Record → List ℕ → Stage → Order → Type 0
 Suits lost said begun stage (orders.Restart boot) = ⊤
 Suits lost said begun stage (Rebuild mark boot last) =
@@ -97,7 +98,7 @@ suits_acts lost said b kept Executes order is =
     suits_none lost said said b.begun (min (kept.last + 1) 4294967295 ∷ b.begun) Executes WritesFirst order
     (λ mark. refl) is
 
--- a start has a mark that no order says
+-- a start has a mark that is in no order
 suits_start : (lost : List ℕ) (said : List Record) (begun begun_too : List ℕ) (stage : Stage) (one two : Option Record)
     (mark : ℕ) (order : Order) → (IsAmong mark lost → ⊥) → Suits lost said begun stage order
     → Suits lost said begun_too (start one two mark).stage order
@@ -153,7 +154,7 @@ suits_step p (BreaksOff mark) link order is =
 suits_step p (Spoils First) link order is = is
 suits_step p (Spoils Second) link order is = is
 
--- one more status: if it says a record, the board has it
+-- one more status: if it reports a record, the board has this record
 suits_told : (lost : List ℕ) (said : List Record) (begun : List ℕ) (kept new : Record) (stage : Stage)
     (order : Order) → status_at kept stage ≡ Says new → Suits lost said begun stage order
     → Suits lost (new ∷ said) begun stage order
@@ -174,7 +175,7 @@ suits_lost : (lost : List ℕ) (new : ℕ) (said : List Record) (begun : List �
 suits_lost lost new said begun stage (orders.Restart boot) is = tt
 suits_lost lost new said begun stage (Rebuild mark boot last) is = (inr is.0, is.1)
 
--- an order that goes up
+-- an order that is sent
 suits_new : (p : Pair) (order : Order) → IsDirected p order → PairHolds p
     → Suits p.lost p.said p.board.begun p.board.executor.stage order
 suits_new p (orders.Restart boot) is h = tt
@@ -189,7 +190,7 @@ suits_new p (Rebuild mark boot last) is h = (
   ),
 )
 
--- what was executed stays so
+-- executed commands remain executed
 more_whole : (b : Board) (kept : Record) (stage : Stage) (n : ℕ) → IsAmong n b.whole
     → IsAmong n (after_doing b (action_at kept stage)).whole
 more_whole b kept (Lost mark) n h = h
@@ -221,7 +222,7 @@ whole_stays b (BreaksOff mark) n h = same_whole b b.executor.kept b.executor.sta
 whole_stays b (Spoils First) n h = h
 whole_stays b (Spoils Second) n h = h
 
--- what is assumed of a link is what is assumed of a board
+-- the assumption about the link implies the assumption about the board
 sound_order : (p : Pair) (read : Result Order LogFault)
     → ((order : Order) → read ≡ Ok order → IsAmong order p.directed) → PairHolds p → IsSoundOrder p.board read
 sound_order p (Err e) is h = tt
@@ -280,7 +281,7 @@ joined_with_none : (xs : List (List ℕ)) → xs ≡ xs ++ []
 joined_with_none [] = refl
 joined_with_none (x ∷ xs) = ap (λ (ys : List (List ℕ)). x ∷ ys) (joined_with_none xs)
 
--- a status is made
+-- a status is reported
 tells : (p : Pair) (status : Status) → status_of p.board.executor ≡ status → PairHolds p
     → PairHolds (after_status p status)
 tells p Changes e h = h

@@ -1,4 +1,4 @@
--- What was spelled is read again.
+-- What was spelled is read back.
 use Rattle.std.proofs.Common.{◌≡◌, ℕ, List, [], ◌∷◌, ◌++◌, Bool, true, false, refl, arith, ap, drop}
 use Rattle.std.specs.Prelude.{if◌then◌else◌, ◌==◌, slice_index, not}
 use Rattle.std.proofs.Common.{eq-eqb, eqb-true, ◌∙◌, ◌⊎◌, inl, inr, length, sym, Result, Ok, Err}
@@ -13,7 +13,7 @@ use Rattle.command_log.specs.declared.fault.LogFault.TheVariants as faults
 use Rattle.command_log.specs.Layout.{front_octets, fields_of, place_octets, record_spelled, IsInRange}
 use Rattle.command_log.specs.Status.{status_octets, status_with, status_in, status_spelled, IsStatusInRange}
 
-flag_back : (flag : Bool) → ((if flag then 1 else 0) == 1) ≡ flag
+pub flag_back : (flag : Bool) → ((if flag then 1 else 0) == 1) ≡ flag
 flag_back true = refl
 flag_back false = refl
 
@@ -52,7 +52,7 @@ read_status octets status waiting is e = (
   ap (λ (xs : List ℕ). slice_index xs 22) e,
 )
 
--- a list is alike to itself
+-- a list is equal to itself, element by element
 pub alike : (xs : List ℕ) → pointwise eqb xs xs ≡ true
 alike [] = refl
 alike (x ∷ xs) = let first : eqb x x ≡ true = eq-eqb x x refl in rw first (alike xs)
@@ -61,7 +61,7 @@ cases_bool : (b : Bool) → (b ≡ true) ⊎ (b ≡ false)
 cases_bool true = inl refl
 cases_bool false = inr refl
 
--- lists that do not differ are one
+-- lists that do not differ are equal
 pub same_lists : (xs ys : List ℕ) → false ≡ not (pointwise eqb xs ys) → xs ≡ ys
 same_lists [] [] e = refl
 same_lists [] (y ∷ ys) e = absurd cc
@@ -89,7 +89,8 @@ record_by : (octets : List ℕ) (same : Bool) → (length octets == 50) ≡ true
 record_by octets true long e = rw (long, e) refl
 record_by octets false long e = rw (long, e) refl
 
--- the record that was found is the one that is spelled, if its octets do not differ
+-- the record that was found is the one that the octets spell, if they do not differ from its
+-- spelling
 pub found_record : (octets written : List ℕ) (found : Record) (differs : Bool) → length octets ≡ 50
     → found ≡ fields_of octets → written ≡ place_octets found → differs ≡ not (pointwise eqb written octets)
     → ◌≡◌ {A = Result Record LogFault} (if not differs then Ok found else Err faults.Check) (record_spelled octets)

@@ -38,7 +38,7 @@ chosen : (b : Board) (packet : List ℕ) (taken dropped : ExecutorState) (flag :
 chosen b packet taken dropped true e = refl
 chosen b packet taken dropped false e = absurd cc
 
--- what was taken is executed
+-- the command that was taken is executed
 executed_next : (b : Board) (kept : Record) (packet : List ℕ) → kept.last < 4294967295
     → IsExecuted (record b { executor = at_stage kept Rests }) packet
     (board_run (record b { executor = at_stage (begun kept packet) WritesFirst; held = packet }) five)

@@ -1,4 +1,4 @@
--- What holds of a board at every moment, and that each event keeps it.
+-- An invariant of a board, which each event preserves.
 use Rattle.std.proofs.Common.{◌≡◌, ℕ, ◌+◌, ◌<◌, inl, inr, min, List, [], ◌∷◌, Bool, true, false, Option, Some}
 use Rattle.std.proofs.Common.{None}
 use Rattle.std.proofs.Common.{refl, sym, ◌∙◌, arith, subst, IfSome, ltb-true, eqb-true, Result, Ok, Err}
@@ -30,12 +30,12 @@ pub record IsSafe (ns ws : List ℕ) (kept : Record) : Type 0 where
   pub is_true : IsTrueOf ns ws kept
   pub low : kept.begun ≡ true → kept.last < 4294967295
 
--- it may also be written, and what it says is begun may then be executed
+-- a record that may also be written, and whose begun command may then be executed
 pub record IsReady (ns ws : List ℕ) (kept : Record) : Type 0 where
   pub safe : IsSafe ns ws kept
   pub below : AreBelow (kept.last + 1) ns
 
--- a place that is not spoiled has this record
+-- a place that is not spoiled contains this record
 abbrev pub HasNoOther : Option Record → Record → Type 0
 HasNoOther place kept = IfSome place (λ copy. copy ≡ kept)
 
@@ -95,7 +95,7 @@ begins ns ws kept packet low is =
       below = is.below;
     }
 
--- no command is begun in it any more
+-- if the record has a command as begun, no number above this command's was begun
 below_begun : (ns ws : List ℕ) (kept : Record) → kept.begun ≡ true → IsSafe ns ws kept → AreBelow (kept.last + 2) ns
 below_begun ns ws kept e is = rw e at is.is_true.no_more
 
@@ -129,7 +129,7 @@ starts ns ws None None mark f s = tt
 
 -- ---- a command is begun, and executed
 
--- what holds of a record that has the command as begun, once it is
+-- what holds of a record with a begun command once its execution has begun
 executing : (ns ws more : List ℕ) (kept : Record) → kept.begun ≡ true → IsReady ns ws kept
     → ((n : ℕ) → IsAmong n ws → IsAmong n more) → IsSafe (min (kept.last + 1) 4294967295 ∷ ns) more kept
 executing ns ws more kept e is adds =
@@ -146,7 +146,7 @@ executing ns ws more kept e is adds =
       low = is.safe.low;
     }
 
--- and of the record that is written after it
+-- and of the record that is written afterwards
 executed : (ns ws : List ℕ) (kept : Record) → kept.begun ≡ true → IsReady ns ws kept
     → IsReady (min (kept.last + 1) 4294967295 ∷ ns) (min (kept.last + 1) 4294967295 ∷ ws) (passed kept 1)
 executed ns ws kept e is =
@@ -163,7 +163,7 @@ executed ns ws kept e is =
     not_begun (min (kept.last + 1) 4294967295 ∷ ns) (min (kept.last + 1) 4294967295 ∷ ws) (passed kept 1) refl
     (omega arith, below) known
 
--- a place that has no other record is safe if that one is
+-- a place that contains no other record is safe if this record is
 pub no_other : (P : Record → Type 0) (place : Option Record) (kept : Record) → HasNoOther place kept → P kept
     → IfSome place P
 no_other P None kept only is = tt
@@ -174,7 +174,7 @@ one_more : (n : ℕ) (ns ws : List ℕ) → ((m : ℕ) → IsAmong m ws → IsAm
 one_more n ns ws within m (inl e) = inl e
 one_more n ns ws within m (inr h) = inr (within m h)
 
--- ---- an action that is done whole, and one that is broken off
+-- ---- an action that is completed, and one that is broken off
 
 -- both copies are the record
 written : (ns ws : List ℕ) (one : Option Record) (kept : Record) (flag : Bool) → kept.begun ≡ flag
@@ -184,7 +184,7 @@ written : (ns ws : List ℕ) (one : Option Record) (kept : Record) (flag : Bool)
 written ns ws one kept true e is only = (is, e, only, refl)
 written ns ws one kept false e is only = (is, e, only, refl)
 
--- what always holds, as an execution begins, whether or not it ends
+-- what holds when an execution begins, whether or not it ends
 with_begun : (ns ws more : List ℕ) (one two : Option Record) (kept : Record) → kept.begun ≡ true → IsReady ns ws kept
     → HasNoOther one kept → HasNoOther two kept → ((n : ℕ) → IsAmong n ws → IsAmong n more)
     → ((n : ℕ) → IsAmong n more → IsAmong n (min (kept.last + 1) 4294967295 ∷ ns))
@@ -269,7 +269,7 @@ taken ns ws one two kept packet WritesFirst e low is = absurd cc
 taken ns ws one two kept packet WritesSecond e low is = absurd cc
 taken ns ws one two kept packet Executes e low is = absurd cc
 
--- the parts of what a board takes
+-- the conditions under which a board takes octets
 pub taken_parts : (s : ExecutorState) (octets : List ℕ) → is_taken s octets ≡ true
     → (is_command octets ≡ true) × (is_at_rest s.stage ≡ true) × (s.kept.last < 4294967295)
     × (number_in octets ≡ s.kept.last + 1)
@@ -315,7 +315,7 @@ spoiled ns ws one two kept Executes is = ((is.0, is.1, tt, is.3), (is.0, is.1, i
 spoiled ns ws one two kept Rests is = ((is.0, is.1, tt, is.3), (is.0, is.1, is.2, tt))
 spoiled ns ws one two kept Ordered is = ((is.0, is.1, tt, is.3), (is.0, is.1, is.2, tt))
 
--- an order comes, or octets that do not form an order
+-- an order arrives, or octets that do not form an order
 obeyed : (b : Board) (read : Result Order LogFault) → IsSoundOrder b read
     → AtStage b.begun b.whole b.first b.second b.executor.kept b.executor.stage
     → AtStage b.begun b.whole b.first b.second (obey_any b.executor read).kept (obey_any b.executor read).stage
@@ -382,7 +382,7 @@ new_holds =
       stage = ready.safe;
     }
 
--- what a status says
+-- a status is true
 says_so : (ns ws : List ℕ) (one two : Option Record) (kept : Record) (stage : Stage) (said : Record)
     → AtStage ns ws one two kept stage → status_at kept stage ≡ Says said → IsTrueOf ns ws said
 says_so ns ws one two kept Rests said is e = let same : kept ≡ said = cc in subst (IsTrueOf ns ws) same

@@ -12,7 +12,7 @@ use Rattle.command_log.specs.Layout.{front_octets, spelling, fields_of, IsInRang
 use Rattle.command_log.specs.Tearing.{torn, EachErasedIsNone, EachTornIsOneOfBoth}
 use Rattle.command_log.proofs.ReadBack.{read_back}
 
--- the second half is the old one, if at most the first was written
+-- the second half is old if at most the first half was written
 second_half : (n done : ℕ) (xs ys : List ℕ) → length xs ≡ n → length ys ≡ n → done ≤ n
     → drop n (torn done (ys ++ ys) (xs ++ xs)) ≡ ys
 second_half n done xs ys e f low =
@@ -28,7 +28,7 @@ second_half n done xs ys e f low =
     ∙ ap (λ (i : ℕ). drop i (ys ++ ys)) all
     ∙ drop_at ys ys n f
 
--- the first half is the new one, if it was written
+-- the first half is new if it was written
 first_half : (n done : ℕ) (xs ys : List ℕ) → length xs ≡ n → n ≤ done → take n (torn done (ys ++ ys) (xs ++ xs)) ≡ xs
 first_half n done xs ys e high =
     let long : length (take done (xs ++ xs)) ≡ min done (length (xs ++ xs)) = length-take done (xs ++ xs) in
@@ -37,7 +37,7 @@ first_half n done xs ys e high =
     ∙ take-take n done (xs ++ xs) high
     ∙ take_at xs xs n e
 
--- records that are spelled alike are one
+-- records with the same spelling are equal
 one_spelling : (a b : Record) → IsInRange a → IsInRange b → spelling a ≡ spelling b → a ≡ b
 one_spelling a b is are e =
     sym (read_back a is) ∙ ap (λ (octets : List ℕ). fields_of (octets ++ octets)) e ∙ read_back b are
@@ -55,7 +55,7 @@ each_torn old new kept done is_old is_new is same =
           ∙ first_half 25 done (spelling new) (spelling old) refl high))
     ]
 
--- ---- memory that is erased
+-- ---- erased memory
 
 check_of_zeros : check_of (replicate 21 0) ≡ 1090831755
 unfolding check_of remainder

@@ -1,6 +1,6 @@
--- A board over time. Its program does what the executor answers, passes what arrives to it, and
--- restarts at any moment, also in the middle of an action. Nothing is assumed of the link: any
--- octets arrive.
+-- A board over time. Its program performs each action that the executor returns, passes on what
+-- arrives, and may restart at any moment, also in the middle of an action. Nothing is assumed about
+-- the link: any octets may arrive.
 use Rattle.std.specs.Prelude.{◌≡◌, ⊤, ℕ, ◌+◌, ◌-◌, ◌<◌, ◌≤◌, ◌⊎◌, List, [], ◌∷◌, true, Result, Ok}
 use Rattle.std.specs.Prelude.{Err}
 use Rattle.std.specs.Prelude.{if◌then◌else◌, Option, Some, None}
@@ -23,14 +23,14 @@ use Rattle.command_log.specs.Executor.{executor_step}
 use Rattle.command_log.specs.Executor.{Takes, Obeys, Done}
 
 pub record Board : Type 0 where
-  -- the records at the two places, none if the check fails
+  -- the record at each of the two places; None if its check fails
   pub first : Option Record
   pub second : Option Record
   pub executor : ExecutorState
   -- the packet that was taken last
   pub held : List ℕ
-  -- newest first: the numbers that the board gave the commands whose execution began, the packets
-  -- that these were, and the numbers of those that were executed whole
+  -- newest first: the numbers that the board gave to the commands whose execution began, the
+  -- packets of these commands, and the numbers of the commands that were executed completely
   pub begun : List ℕ
   pub packets : List (List ℕ)
   pub whole : List ℕ
@@ -50,12 +50,12 @@ new_board =
     }
 
 pub data Event : Type 0 where
-  -- octets are offered as a command, or come as an order
+  -- octets are offered as a command, or arrive as an order
   Offers : (octets : List ℕ) → Event
   Orders : (octets : List ℕ) → Event
-  -- what the executor answers is done, whole
+  -- the action that the executor returns is completed
   Acts : Event
-  -- the board restarts, between two actions or in the middle of one, and is given a mark
+  -- the board restarts between two actions, or in the middle of one, with this mark
   Restarts : (mark : ℕ) → Event
   BreaksOff : (mark : ℕ) → Event
   -- a copy is spoiled
@@ -65,7 +65,7 @@ abbrev pub with_place : Board → Place → Option Record → Board
 with_place b First it = record b { first = it }
 with_place b Second it = record b { second = it }
 
--- an action that is done whole
+-- the board after a completed action
 abbrev pub after_doing : Board → Action → Board
 after_doing b Nothing = b
 after_doing b Restart = b
@@ -73,9 +73,9 @@ after_doing b (Write place kept) = with_place b place (Some kept)
 after_doing b (Execute number) =
     record b { begun = number ∷ b.begun; packets = b.held ∷ b.packets; whole = number ∷ b.whole }
 
--- An action that is broken off in its middle: the place has no record, or the command is begun. (If
--- the place still has the old record, or the whole new one, the board restarts between two
--- actions.)
+-- The board after an action that is broken off: the place has no record, or the command has begun.
+-- (If the place still has the old record, or already the whole new one, this is a restart between
+-- two actions.)
 abbrev pub after_break : Board → Action → Board
 after_break b Nothing = b
 after_break b Restart = b
@@ -105,9 +105,10 @@ abbrev pub board_run : Board → List Event → Board
 board_run b [] = b
 board_run b (event ∷ events) = board_run (board_step b event) events
 
--- ---- what is assumed, and what is promised
+-- ---- assumptions and guarantees
 
--- the numbers fall, and each is below the bound: newest first, so each comes once and in order
+-- the numbers decrease, and each is below the bound; the newest is first, so each occurs once and
+-- in order
 abbrev pub AreBelow : ℕ → List ℕ → Type 0
 AreBelow bound [] = ⊤
 AreBelow bound (n ∷ ns) = (n < bound) × AreBelow n ns
@@ -116,7 +117,7 @@ abbrev pub IsAmong : {X : Type 0} → X → List X → Type 0
 IsAmong n [] = ⊥
 IsAmong n (m ∷ ms) = (n ≡ m) ⊎ IsAmong n ms
 
--- of an order that brings a record, and that a board obeys: no number above its last was begun
+-- if the board obeys an order that brings a record, no number above the order's last was begun
 abbrev pub BringsAll : Board → Order → Type 0
 BringsAll b (orders.Restart boot) = ⊤
 BringsAll b (Rebuild mark boot last) =
@@ -138,21 +139,22 @@ abbrev pub AreSound : Board → List Event → Type 0
 AreSound b [] = ⊤
 AreSound b (event ∷ events) = IsSound b event × AreSound (board_step b event) events
 
--- the record says that the number was executed
+-- the record shows that the command with this number was executed
 abbrev pub IsKnown : Record → ℕ → Type 0
 IsKnown kept n = (0 < n) × (n ≤ kept.last) × (bit_at kept.known (kept.last - n) ≡ 1)
 
 abbrev pub bound_of : Record → ℕ
 bound_of kept = if kept.begun then kept.last + 2 else kept.last + 1
 
--- what a record says of the numbers that were begun, and of those that were executed whole
+-- the record is true of the numbers that were begun and of the numbers that were executed
+-- completely
 pub record IsTrueOf (begun whole : List ℕ) (kept : Record) : Type 0 where
-  -- no number above the last was begun, except the next if the record says that it may be
+  -- no number above the last was begun, except possibly the next one if the record has it as begun
   pub no_more : AreBelow (bound_of kept) begun
   pub known : (n : ℕ) → IsKnown kept n → IsAmong n whole
 
 pub record IsCarriedOut (b : Board) : Type 0 where
-  -- what was begun, was begun once and in order
+  -- each number was begun at most once, and in order
   pub once : (bound : ℕ) × AreBelow bound b.begun
   pub whole : (n : ℕ) → IsAmong n b.whole → IsAmong n b.begun
   pub said : (kept : Record) → status_of b.executor ≡ Says kept → IsTrueOf b.begun b.whole kept

@@ -1,7 +1,7 @@
--- A ground and a board, with any link between them: what went up arrives, or not, or several times,
--- in any order, and so do other octets, whose check does not hold. The ground gives a number to
--- each command, stores what it has given, and sends only what is stored. It may be lost, and
--- another one begins with what was stored last.
+-- A ground and a board, with any link between them. What was sent arrives once, several times or
+-- not at all, in any order. Other octets may arrive too, but their check does not hold. The ground
+-- numbers each command, stores the numbered commands, and sends only stored ones. The ground may be
+-- lost; another one then begins with what was stored last.
 use Rattle.std.specs.Prelude.{◌≡◌, ⊤, ℕ, ◌-◌, ◌<◌, ◌≤◌, max, List, [], ◌∷◌, ◌++◌, true, Some, Ok}
 use Rattle.std.specs.Prelude.{slice_get}
 use Rattle.std.specs.List.{AllByRecursion}
@@ -18,15 +18,15 @@ use Rattle.command_log.specs.Board.{new_board, board_step}
 use Rattle.command_log.specs.Board.{IsAmong, IsKnown}
 
 pub record Pair : Type 0 where
-  -- the commands in the order of their numbers, which begin at 1: as they were given, and as they
-  -- were stored last
+  -- the commands in the order of their numbers, which begin at 1: all that were given a number, and
+  -- those that were stored last
   pub given : List (List ℕ)
   pub stored : List (List ℕ)
-  -- what went up: command packets and orders, and the highest number in any of them
+  -- what was sent: command packets and orders, and the highest number in any of them
   pub sent : List (List ℕ)
   pub directed : List Order
   pub high : ℕ
-  -- what the board's statuses said: records, and the marks of losses
+  -- what the board's statuses reported: records, and the marks of losses
   pub said : List Record
   pub lost : List ℕ
   pub board : Board
@@ -76,14 +76,15 @@ abbrev pub pair_run : Pair → List Deed → Pair
 pair_run p [] = p
 pair_run p (deed ∷ deeds) = pair_run (pair_step p deed) deeds
 
--- ---- what is assumed
+-- ---- assumptions
 
--- the number is that of this command
+-- the packet's content is the command with the packet's number
 abbrev pub IsNumbered : List (List ℕ) → List ℕ → Type 0
 IsNumbered commands packet =
     (0 < number_in packet) × (slice_get commands (number_in packet - 1) ≡ Some (content_in packet))
 
--- The link: a packet whose check holds went up. A start: no status has said its mark before.
+-- A command packet or an order that arrives with a valid check was sent. No status has reported the
+-- mark of a restart before the restart.
 abbrev pub IsOfTheLink : Pair → Event → Type 0
 IsOfTheLink p (Offers octets) = is_command octets ≡ true → IsAmong octets p.sent
 IsOfTheLink p (Orders octets) =
@@ -93,13 +94,13 @@ IsOfTheLink p (Restarts mark) = IsAmong mark p.lost → ⊥
 IsOfTheLink p (BreaksOff mark) = IsAmong mark p.lost → ⊥
 IsOfTheLink p (Spoils place) = ⊤
 
--- An order that brings a record says a mark that a status has said, and no number has gone up above
--- its last.
+-- An order that brings a record contains a mark that a status has reported, and no number above the
+-- order's last has been sent.
 abbrev pub IsDirected : Pair → Order → Type 0
 IsDirected p (orders.Restart boot) = ⊤
 IsDirected p (Rebuild mark boot last) = IsAmong mark p.lost × (p.high ≤ last)
 
--- the ground sends what is stored
+-- the ground sends only commands that are stored
 abbrev pub IsOwed : Pair → Deed → Type 0
 IsOwed p (Gives command) = ⊤
 IsOwed p Stores = ⊤
@@ -113,25 +114,25 @@ abbrev pub AreOwed : Pair → List Deed → Type 0
 AreOwed p [] = ⊤
 AreOwed p (deed ∷ deeds) = IsOwed p deed × AreOwed (pair_step p deed) deeds
 
--- ---- what is promised
+-- ---- guarantees
 
--- newest first: their numbers fall, so each comes once and in order
+-- the numbers decrease; the newest is first, so each occurs once and in order
 abbrev pub AreInOrder : ℕ → List (List ℕ) → Type 0
 AreInOrder bound [] = ⊤
 AreInOrder bound (packet ∷ packets) =
     (number_in packet < bound) × AreInOrder (number_in packet) packets
 
 pub record AreCarriedOut (p : Pair) : Type 0 where
-  -- what was executed are commands that the ground has stored under these numbers, each once and in
-  -- order
+  -- the packets whose execution began contain commands that the ground has stored under these
+  -- numbers, each once and in order
   pub once : (bound : ℕ) × AreInOrder bound p.board.packets
   pub stored : AllByRecursion (IsNumbered p.stored) p.board.packets
-  -- each command that any status said was executed was executed, whole
+  -- each command that a status reported as executed was executed completely
   pub said : (kept : Record) (n : ℕ) → IsAmong kept p.said → IsKnown kept n
       → IsAmong n p.board.whole
   pub whole : (n : ℕ) → IsAmong n p.board.whole
       → (packet : List ℕ) × IsAmong packet p.board.packets × (number_in packet ≡ n)
-  -- the last of a status is at least the last of each status before it
+  -- the last number of a status is at least the last number of each earlier status
   pub rises : (kept earlier : Record) → status_of p.board.executor ≡ Says kept
       → IsAmong earlier p.said
       → earlier.last ≤ kept.last

@@ -1,5 +1,5 @@
--- The check of records, status, orders and command packets: CRC-32 (ISO/IEC 3309, IEEE 802.3), the
--- remainder of a division of bits. The lowest bit of each octet comes first.
+-- The check of records, statuses, orders and command packets: CRC-32 (ISO/IEC 3309, IEEE 802.3),
+-- the remainder of a division of bits. The lowest bit of each octet comes first.
 use Rattle.std.specs.Prelude.{◌-◌, take, drop, ℕ, zero, suc, ◌+◌, ◌*◌, ◌/◌, ◌%◌, ◌==◌, Bool}
 use Rattle.std.specs.Prelude.{true, false, ◌&&◌, nat_le, if◌then◌else◌, List, [], ◌∷◌, ◌++◌, length}
 use Rattle.std.specs.Prelude.{replicate, bit_xor}
@@ -26,29 +26,30 @@ octet_bits octets = flat_map (low_bits 8) octets
 abbrev pub generator_rest : List Bool
 generator_rest = bits_of 32 0x04C11DB7
 
--- Long division by the generator, with as many steps as the quotient has bits. Where the first bit
--- is 1 the generator is taken away there; then that bit, which is 0 now, is left out.
+-- Long division by the generator, with as many steps as the quotient has bits. If the first bit is
+-- 1, the generator is subtracted there, modulo 2. Then the first bit, which is now 0, is left out.
 unfoldable pub remainder : ℕ → List Bool → List Bool
 remainder zero bits = bits
 remainder (suc n) [] = []
 remainder (suc n) (b ∷ bits) =
     remainder n (if b then sum_without_carries generator_rest bits else bits)
 
--- the check of octets: their bits and 32 zero bits, the first 32 of all these inverted, divided by
--- the generator; the remainder's bits inverted, the first of them the lowest of the number
+-- The check of octets. Their bits are followed by 32 zero bits, and the first 32 of all these bits
+-- are inverted. The result is divided by the generator. The remainder's bits are inverted, and the
+-- first of them is the lowest of the number.
 unfoldable pub check_of : List ℕ → ℕ
 check_of octets =
     4294967295 - number_of_low_bits (remainder (8 * length octets)
     (sum_without_carries (replicate 32 true) (octet_bits octets ++ replicate 32 false)))
 
--- the check of octets that have this check, and of these octets after them
+-- the check of earlier octets and of these octets after them, from the check of the earlier octets
 unfoldable pub check_after : ℕ → List ℕ → ℕ
 check_after check octets =
     4294967295 - number_of_low_bits (remainder (8 * length octets)
     (sum_without_carries (low_bits 32 (4294967295 - check))
     (octet_bits octets ++ replicate 32 false)))
 
--- octets, and then their check
+-- octets, followed by their check
 abbrev pub sealed : List ℕ → List ℕ
 sealed front = front ++ big_bytes 4 (check_of front)
 
@@ -60,11 +61,11 @@ holds_check octets =
 
 -- The register that computes the check.
 
--- the register after one bit more
+-- the register after one more bit
 abbrev pub register_step : ℕ → ℕ
 register_step r = if r % 2 == 1 then bit_xor (r / 2) 0xEDB88320 else r / 2
 
--- the register after n bits more
+-- the register after n more bits
 abbrev pub register_after : ℕ → ℕ → ℕ
 register_after zero r = r
 register_after (suc n) r = register_after n (register_step r)

@@ -1,4 +1,4 @@
--- What is executed next on board, by cases: what is at hand, and how far it is.
+-- What the board executes next, case by case: the record that it has, and the executor's stage.
 use Rattle.std.specs.Prelude.{ℕ, ◌+◌, min, Bool, true, false, not, ◌&&◌, ◌==◌, nat_lt, nat_le}
 use Rattle.std.specs.Prelude.{if◌then◌else◌, List, Option, Some, None, Result, Ok, Err}
 use Rattle.command_log.specs.declared.fault.LogFault.{LogFault}
@@ -22,7 +22,7 @@ use Rattle.command_log.specs.Packets.{is_command, is_sound, number_in, content_i
 use Rattle.command_log.specs.Packets.{order_at}
 use Rattle.command_log.specs.Record.{no_commands, begun, passed, after_start}
 
--- the record as it is kept, or is to be, and how far the executor is
+-- the record as it is stored or is being written, and the executor's stage
 pub record ExecutorState : Type 0 where
   pub kept : Record
   pub stage : Stage
@@ -30,7 +30,7 @@ pub record ExecutorState : Type 0 where
 abbrev pub at_stage : Record → Stage → ExecutorState
 at_stage kept stage = record { kept = kept; stage = stage }
 
--- The first good copy is written over the other one. If no copy is good, the mark is that of this
+-- The first good copy is written over the other one. If no copy is good, the mark identifies this
 -- loss.
 abbrev pub start : Option Record → Option Record → ℕ → ExecutorState
 start (Some first) second mark = at_stage first RepairsSecond
@@ -47,16 +47,17 @@ action_at kept Rests = Nothing
 action_at kept (Lost mark) = Nothing
 action_at kept Ordered = Restart
 
--- what is to be done next
+-- the next action
 abbrev pub action_of : ExecutorState → Action
 action_of s = action_at s.kept s.stage
 
--- a record that says that a command is begun is at both places before the command is executed
+-- if the record has a command as begun, the command is executed once both places contain this
+-- record
 abbrev pub after_writes : Record → Bool → ExecutorState
 after_writes kept true = at_stage kept Executes
 after_writes kept false = at_stage kept Rests
 
--- the action is done, whole
+-- the state after the action is completed
 abbrev pub after_action : Record → Stage → ExecutorState
 after_action kept RepairsFirst = at_stage (after_start kept) WritesFirst
 after_action kept RepairsSecond = at_stage (after_start kept) WritesFirst
@@ -107,7 +108,7 @@ is_taken s octets =
     is_command octets && (is_at_rest s.stage &&
     (nat_lt s.kept.last 4294967295 && (number_in octets == s.kept.last + 1)))
 
--- an order that is not obeyed changes nothing
+-- whether the order is obeyed; an order that is not obeyed changes nothing
 abbrev pub is_obeyed : ExecutorState → Order → Bool
 is_obeyed s (orders.Restart boot) = is_at_rest s.stage && (boot == s.kept.boot)
 is_obeyed s (Rebuild mark boot last) = has_mark s.stage mark
@@ -137,7 +138,7 @@ executor_step s Done = after_action s.kept s.stage
 
 -- ---- what is refused, and why
 
--- the mission's octets of the next command, or why another one is dropped
+-- the mission's octets if this is the next command, or why the command is dropped
 abbrev pub by_number : (last number : ℕ) → List ℕ → Result (List ℕ) LogFault
 by_number last number content =
     if nat_le number last then Err faults.Behind
@@ -196,6 +197,6 @@ status_at kept WritesSecond = Changes
 status_at kept (Lost mark) = status.Lost mark
 status_at kept Ordered = Says kept
 
--- what telemetry says
+-- what telemetry reports
 abbrev pub status_of : ExecutorState → Status
 status_of s = status_at s.kept s.stage

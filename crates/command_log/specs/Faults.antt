@@ -1,4 +1,4 @@
--- The refusals of a board's log of commands: a row each.
+-- The faults of the command log, one row each.
 use Rattle.std.specs.Prelude.{ℕ, List, codes}
 use Rattle.command_log.specs.declared.fault.LogFault.{LogFault}
 use Rattle.command_log.specs.declared.fault.LogFault.TheVariants.{Layout, Check, Starting, Busy}

@@ -9,7 +9,7 @@ use Rattle.command_log.specs.Check.{check_of, check_after}
 abbrev pub check_octets : List ℕ → List ℕ
 check_octets packet = drop (length packet - 4) packet
 
--- the history after one packet more
+-- the history after one more packet
 abbrev pub history_after : ℕ → List ℕ → ℕ
 history_after history packet = check_after history (check_octets packet)
 

@@ -1,4 +1,5 @@
--- How much is not known: at most one number for each restart, and all if a record is brought.
+-- How many numbers are not known to be executed: at most one for each restart, and 64 for each
+-- order that arrives to bring a record.
 use Rattle.std.specs.Prelude.{◌≡◌, ℕ, zero, suc, ◌+◌, ◌-◌, ◌≤◌, min, List, [], ◌∷◌, Result, Ok, Err}
 use Rattle.std.specs.Int.{bit_at}
 use Rattle.command_log.specs.declared.record.Record.{Record}
@@ -12,16 +13,16 @@ use Rattle.command_log.specs.Executor.{status_of}
 use Rattle.command_log.specs.Board.{Event, Offers, Orders, Acts, Restarts, BreaksOff, Spoils}
 use Rattle.command_log.specs.Board.{new_board, board_run, AreSound}
 
--- how many of the latest numbers are not known
+-- the number of the latest numbers that are not known to be executed
 abbrev pub unknown_among : ℕ → ℕ → ℕ
 unknown_among zero known = 0
 unknown_among (suc age) known = (1 - bit_at known age) + unknown_among age known
 
--- among the numbers up to the last; the latest 64 have a bit
+-- the same among the numbers up to the last; only the latest 64 have a bit
 abbrev pub unknown_of : Record → ℕ
 unknown_of kept = unknown_among (min kept.last 64) kept.known
 
--- an order that brings a record
+-- 64 if octets are an order to bring a record
 abbrev pub brought_by : Result Order LogFault → ℕ
 brought_by (Err e) = 0
 brought_by (Ok (orders.Restart boot)) = 0

@@ -1,5 +1,5 @@
--- The record in octets: 4 of the boot count, 4 of the last number, 8 of what is known, 4 of the
--- history, 1 of whether the next command is begun, and 4 of the check of all these.
+-- The record in octets: boot count (4), last number (4), what is known (8), history (4), whether
+-- the next command has begun (1), and the check of all these (4).
 use Rattle.std.specs.Prelude.{ℕ, ◌<◌, ◌^◌, List, [], ◌∷◌, ◌++◌, if◌then◌else◌, drop, ◌==◌}
 use Rattle.std.specs.Prelude.{slice_index, length, not, Option, Some, None, Result, Ok, Err}
 use Rattle.std.specs.Str.{bytes_eq}
@@ -39,7 +39,7 @@ fields_of octets =
       history = big_number 4 (drop 16 octets);
     }
 
--- the record that the octets at a place spell, or why they spell none
+-- the record that the octets at a place spell, or why they do not spell a record
 abbrev pub record_spelled : List ℕ → Result Record LogFault
 record_spelled octets =
     if not (length octets == 50) then Err faults.Layout

@@ -1,6 +1,6 @@
--- When a board keeps its record: a copy is spoiled only while both are good, and until both are
--- good again no action is broken off. It may restart at any moment, and be cut off in the middle of
--- any action otherwise.
+-- When a board keeps its record. A copy is spoiled only while both are good, and no action is
+-- broken off until both are good again. The board may restart between two actions at any time, and
+-- otherwise in the middle of any action.
 use Rattle.std.specs.Prelude.{◌≡◌, ⊤, List, [], ◌∷◌, Bool, true, false, ◌&&◌, not, is_some}
 use Rattle.command_log.specs.Executor.{is_lost}
 use Rattle.command_log.specs.Board.{Board, Event, Offers, Orders, Acts, Restarts, BreaksOff, Spoils}
@@ -9,7 +9,7 @@ use Rattle.command_log.specs.Board.{new_board, board_step, board_run}
 abbrev pub are_both_good : Board → Bool
 are_both_good b = is_some b.first && is_some b.second
 
--- whether a copy is spoiled that is not written again yet
+-- whether a spoiled copy has not been rewritten yet
 abbrev pub still_spoiled : Bool → Event → Board → Bool
 still_spoiled was (Spoils place) after = true
 still_spoiled was (Offers octets) after = was

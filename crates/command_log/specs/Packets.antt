@@ -1,5 +1,5 @@
--- Command packets and orders: space packets that end with their check (CCSDS 133.0-B-2, 4.1):
--- telecommand packets, unsegmented, with no secondary header.
+-- Command packets and orders: unsegmented telecommand packets with no secondary header (CCSDS
+-- 133.0-B-2, 4.1), which end with their check.
 use Rattle.std.specs.Prelude.{ℕ, ◌+◌, ◌-◌, ◌*◌, ◌/◌, ◌%◌, ◌^◌, List, ◌∷◌, ◌++◌, length}
 use Rattle.std.specs.Prelude.{take, drop, slice_index, Bool, ◌&&◌, ◌==◌, not, nat_lt, nat_le}
 use Rattle.std.specs.Prelude.{if◌then◌else◌, Result, Ok, Err}
@@ -12,16 +12,16 @@ use Rattle.command_log.specs.declared.packets.Command.{Command}
 use Rattle.command_log.specs.declared.packets.Order.{Order}
 use Rattle.command_log.specs.declared.packets.Order.TheVariants.{Restart, Rebuild}
 
--- the header of a packet with so many octets of data
+-- the header of a packet with this many octets of data
 abbrev pub header_octets : (apid count long : ℕ) → List ℕ
 header_octets apid count long =
     big_bytes 2 (4096 + apid) ++ (big_bytes 2 (49152 + count) ++ big_bytes 2 (long - 1))
 
--- a packet with these data, and its check after them
+-- a packet with these data, followed by its check
 abbrev pub packet_octets : (apid count : ℕ) → List ℕ → List ℕ
 packet_octets apid count content = sealed (header_octets apid count (length content + 4) ++ content)
 
--- at least so many octets, and exactly one such packet
+-- at least this many octets, which are exactly one such packet
 abbrev pub is_framed : ℕ → List ℕ → Bool
 is_framed least octets =
     nat_le least (length octets) && (slice_index octets 0 / 8 == 2)
@@ -36,7 +36,7 @@ pub record CommandView : Type 0 where
   pub number : ℕ
   pub content : List ℕ
 
--- a command packet without where its octets lie in memory
+-- a command packet without its place in memory
 abbrev pub command_view : Command → CommandView
 command_view c =
     record { apid = c.apid; count = c.count; number = c.number; content = c.content.now }
@@ -78,7 +78,7 @@ command_at octets =
     else if not (is_sound octets) then Err faults.Check
     else Ok (command_in octets)
 
--- how many octets are written if there is room for this many, or why none are
+-- the number of octets that are written if there is room for this many, or why none are written
 abbrev pub command_answer : CommandView → ℕ → Result ℕ LogFault
 command_answer c room =
     count_written (command_fits c) (length c.content + 14) room faults.FieldRange faults.Room
@@ -111,7 +111,7 @@ order_octets apid count order = packet_octets apid count (order_front order)
 abbrev pub order_fits : (apid count : ℕ) → Bool
 order_fits apid count = nat_lt apid 2048 && nat_lt count 16384
 
--- the order of this kind with these fields; that of a restart has zeros
+-- the order of this kind with these fields; the last number and the mark of a restart are 0
 abbrev pub order_with : (kind boot last mark : ℕ) → Result Order LogFault
 order_with kind boot last mark =
     if kind == 2 then Ok (Rebuild mark boot last)

@@ -1,4 +1,4 @@
--- What a board comes to if it is not cut off.
+-- What a board reaches if it is not cut off.
 use Rattle.std.specs.Prelude.{◌≡◌, ℕ, ◌+◌, ◌<◌, List, [], ◌∷◌, true, false}
 use Rattle.command_log.specs.declared.status.Status.TheVariants.{Says}
 use Rattle.command_log.specs.declared.executor.Stage.TheVariants.{Rests, Ordered}
@@ -11,14 +11,14 @@ use Rattle.command_log.specs.Board.{Board, Event, Offers, Acts, board_run}
 abbrev pub five : List Event
 five = Acts ∷ Acts ∷ Acts ∷ Acts ∷ Acts ∷ []
 
--- after five actions any board that has a record, and is not to restart, is at rest
+-- any board that has a record, and has not been ordered to restart, is at rest after five actions
 abbrev pub EachComesToRest : Type 0
 EachComesToRest =
     (b : Board) → is_lost b.executor ≡ false → (b.executor.stage ≡ Ordered → ⊥)
     → (board_run b five).executor.stage ≡ Rests
 
--- at rest the next command is taken, and after five actions it is executed, whole, and a status
--- says so
+-- at rest the next command is taken; after five actions it has been executed completely, and a
+-- status reports this
 pub record IsExecuted (b : Board) (packet : List ℕ) (after : Board) : Type 0 where
   pub whole : after.whole ≡ (b.executor.kept.last + 1) ∷ b.whole
   pub packets : after.packets ≡ packet ∷ b.packets

@@ -1,5 +1,5 @@
--- What telemetry says, in octets: 1 of the kind, the fields of a record, 1 of how many commands
--- wait, and 4 of the check.
+-- A status in octets, as telemetry carries it: kind (1), the fields of a record, the number of
+-- commands that wait (1), and the check (4).
 use Rattle.std.specs.Prelude.{ℕ, ◌<◌, ◌^◌, List, [], ◌∷◌, ◌++◌, ⊤, if◌then◌else◌, ◌==◌, not}
 use Rattle.std.specs.Prelude.{length, drop, slice_index, Result, Ok, Err}
 use Rattle.std.specs.Str.{bytes_eq}
@@ -18,7 +18,8 @@ kind_of Changes = 1
 kind_of Starts = 2
 kind_of (Lost mark) = 3
 
--- the record of a status; the mark of a loss is in the place of the boot count, and all else is 0
+-- the record in a status; the mark of a loss takes the boot count's field, and all other fields are
+-- 0
 abbrev pub record_of : Status → Record
 record_of (Says kept) = kept
 record_of Changes = no_commands 0 0
@@ -31,7 +32,7 @@ status_front status waiting = kind_of status ∷ (front_octets (record_of status
 abbrev pub status_octets : Status → ℕ → List ℕ
 status_octets status waiting = sealed (status_front status waiting)
 
--- the status of this kind with these fields, those that it does not have left out
+-- the status of this kind with these fields, except those that it does not have
 abbrev pub status_with : ℕ → Record → Status
 status_with kind kept =
     if kind == 0 then Says kept else if kind == 1 then Changes
@@ -47,7 +48,8 @@ IsStatusInRange (Lost mark) = mark < 2 ^ 32
 abbrev pub status_in : List ℕ → Status
 status_in octets = status_with (slice_index octets 0) (fields_of (drop 1 octets))
 
--- the status that octets spell, and how many commands wait; or why they spell none
+-- the status that octets spell and the number of commands that wait, or why they do not spell a
+-- status
 abbrev pub status_spelled : List ℕ → Result (Status × ℕ) LogFault
 status_spelled octets =
     if not (length octets == 27) then Err faults.Layout

@@ -1,4 +1,4 @@
-// The check of records, status, orders and command packets.
+// The check of records, statuses, orders and command packets.
 
 ghost use Rattle.std.specs.Prelude.{◌≡◌, ◌≤◌, ◌<◌, ◌-◌, ◌^◌, length, take, bit_xor};
 ghost use Rattle.command_log.specs.Check.{check_of, check_after, sealed, holds_check};
@@ -7,7 +7,7 @@ ghost use Rattle.command_log.specs.History.{history_after};
 
 use byteorder::{BigEndian, ByteOrder};
 
-/// The check of the octets: CRC-32 (ISO/IEC 3309, IEEE 802.3), as `crc32` of zlib.
+/// Returns the check of the octets: CRC-32 (ISO/IEC 3309, IEEE 802.3), like zlib's `crc32`.
 /// Cost: n.
 pub fn check(octets: &[u8]) -> u32
     ensures { result ≡ check_of octets.now }
@@ -15,7 +15,7 @@ pub fn check(octets: &[u8]) -> u32
     check_after(0, octets)
 }
 
-// One copy, since a board has little memory.
+// One copy of this code, since a board has little memory.
 #[inline(never)]
 fn check_after(check: u32, octets: &[u8]) -> u32
     ensures { result ≡ check_after check octets.now }
@@ -27,8 +27,8 @@ fn check_after(check: u32, octets: &[u8]) -> u32
     u32::MAX - register
 }
 
-/// Returns the history after one command packet more: CRC-32 continued over the packet's check, its last
-/// four octets. The history of no packets is 0.
+/// Returns the history after one more command packet: CRC-32 continued over the packet's check, its last four
+/// octets. The history of no packets is 0.
 pub fn history_after(history: u32, packet: &[u8]) -> u32
     ensures { result ≡ history_after history packet.now }
 {
@@ -53,7 +53,7 @@ fn after_bit(register: u32) -> u32
     (register / 2) ^ (register % 2 * 0xEDB8_8320)
 }
 
-/// Sets the last four octets to the check of those before them.
+/// Sets the last four octets to the check of the octets before them.
 /// Cost: n.
 pub(crate) fn append_check(octets: &mut [u8])
     requires { 4 ≤ length octets.old }
@@ -64,9 +64,9 @@ pub(crate) fn append_check(octets: &mut [u8])
     BigEndian::write_u32(&mut octets[len..], value);
 }
 
-/// Whether the last four octets are the check of those before them; false for fewer than four.
+/// Returns whether the last four octets are the check of the octets before them; false for fewer than four.
 /// Cost: n.
-pub(crate) fn check_holds(octets: &[u8]) -> bool
+pub fn check_holds(octets: &[u8]) -> bool
     ensures { result ≡ holds_check octets.now }
 {
     if octets.len() < 4 {

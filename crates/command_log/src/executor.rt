@@ -16,12 +16,12 @@ pub enum Place {
     Second,
 }
 
-/// What the program does next. It does this whole, and then passes the value to `Executor::done`.
+/// What the program does next. The program completes the action, and then passes it to `Executor::done`.
 #[derive(Debug, PartialEq, Eq, Drop)]
 pub enum Action {
     /// Nothing: a command or an order may be passed in.
     Nothing,
-    /// Write the record at the place.
+    /// Write the record to this place.
     Write(Place, Record),
     /// Execute the command that was taken last. This is its number.
     Execute(u32),
@@ -29,18 +29,19 @@ pub enum Action {
     Restart,
 }
 
-/// How far the executor is.
+/// How far the executor has got.
 #[derive(Clone, Copy, Debug, PartialEq, Eq)]
 pub enum Stage {
-    /// No copy is good: nothing is executed until a record is brought. The mark of this loss.
+    /// No copy is good, and nothing is executed until an order brings a record. The value is the mark of this
+    /// loss.
     Lost(u32),
     /// The second copy is written over the first.
     RepairsFirst,
     /// The first copy is written over the second.
     RepairsSecond,
-    /// A changed record is written at the first place.
+    /// A changed record is written to the first place.
     WritesFirst,
-    /// The same at the second place.
+    /// The same record is written to the second place.
     WritesSecond,
     /// The command is executed.
     Executes,
@@ -50,9 +51,9 @@ pub enum Stage {
     Ordered,
 }
 
-/// Decides what is executed next on board: each command once and in order, over restarts at any moment. It
-/// does no input or output, and takes no memory. The program does what `next` returns, whole, before it calls
-/// `next` again.
+/// Decides what is executed next on board: each command once and in order, across restarts at any moment. It
+/// performs no input or output, and allocates no memory. The program completes what `next` returns before it
+/// calls `next` again.
 #[derive(Clone, Copy)]
 pub struct Executor {
     kept: Record,
@@ -77,9 +78,9 @@ impl Executor {
     ghost use Rattle.std.specs.Prelude.{◌<◌};
     ghost use Rattle.command_log.specs.Record.{passed};
 
-    /// Starts with the records at the two places, `None` if a place has no record. The program gives another
-    /// mark at each start, from a clock or at random. If neither place has a record, it is the mark of this
-    /// loss.
+    /// Starts with the records at the two places; `None` if a place has no record. The program passes a
+    /// different mark at each start, from a clock or at random. If neither place has a record, the mark is
+    /// that of this loss.
     pub fn start(first: Option<Record>, second: Option<Record>, mark: u32) -> Executor
         ensures { result ≡ start first second mark }
     {
@@ -99,7 +100,7 @@ impl Executor {
         }
     }
 
-    /// Continues with a record and at a stage that `kept` and `stage` returned.
+    /// Continues with a record and a stage that `kept` and `stage` returned.
     pub fn restore(kept: Record, stage: Stage) -> Executor
         ensures { result ≡ at_stage kept stage }
     {
@@ -113,14 +114,14 @@ impl Executor {
         self.kept
     }
 
-    /// Returns how far the executor is.
+    /// Returns how far the executor has got.
     pub fn stage(&self) -> Stage
         ensures { result ≡ self.now.stage }
     {
         self.stage
     }
 
-    /// Returns what the program does now.
+    /// Returns the action that the program performs now.
     pub fn next(&self) -> Action
         ensures { result ≡ action_of self.now }
     {
@@ -133,7 +134,7 @@ impl Executor {
         }
     }
 
-    /// Takes an action that was done whole, and moves on. Changes nothing if it is not what `next` returns.
+    /// Accepts a completed action, and moves on. Changes nothing if the action is not what `next` returns.
     pub fn done(&mut self, action: Action)
         ensures done { action ≡ action_of self.old → self.new ≡ executor_step self.old Done }
         ensures other { (action ≡ action_of self.old → ⊥) → self.new ≡ self.old }
@@ -183,9 +184,9 @@ impl Executor {
         self.kept.known = self.kept.known % (1 << 63) * 2 + bit;
     }
 
-    /// Takes a packet that arrived if it is the next command, and returns the mission's octets: the command
-    /// is executed once `next` returns `Execute`. Drops any other packet, and changes nothing then. After the
-    /// number 4,294,967,295 no command is taken.
+    /// Takes a packet that arrived if it is the next command, and returns the mission's octets. The command
+    /// is executed when `next` returns `Execute`. Drops any other packet, and then changes nothing. No
+    /// command is taken after the number 4,294,967,295.
     /// Faults: 1 Layout, then 2 Check, then 3 Starting, 4 Busy or 5 Lost, then 6 Behind or 7 Ahead. Cost: n.
     pub fn offer<'a>(&mut self, octets: &'a [u8]) -> Result<&'a [u8], LogFault>
         ensures answer { map_ok (λ content. content.now) result ≡ offer_answer self.old octets.now }
@@ -216,10 +217,10 @@ impl Executor {
         }
     }
 
-    /// Takes an order that arrived. `next` then returns `Restart`; or the board that has lost its record
-    /// continues with the record of the order, if the order has the mark of this loss. Nothing is known of
-    /// the numbers up to its last, none of them is executed, and the history is 0. Drops any other packet,
-    /// and changes nothing then.
+    /// Takes an order that arrived. After an order to restart, `next` returns `Restart`. If the board has
+    /// lost its record, and an order has the mark of this loss, the board continues with the order's record.
+    /// Nothing is then known of the numbers up to the record's last, none of them is executed, and the
+    /// history is 0. Drops any other packet, and then changes nothing.
     /// Faults: 1 Layout, then 2 Check; of a restart 3 Starting, 4 Busy or 5 Lost, then 8 OtherBoot; of a
     /// record 9 NotLost, then 10 OtherMark.
     pub fn obey(&mut self, octets: &[u8]) -> Result<(), LogFault>
@@ -260,7 +261,7 @@ impl Executor {
         Ok(())
     }
 
-    /// Returns what telemetry states.
+    /// Returns the status that telemetry reports.
     pub fn status(&self) -> Status
         ensures { result ≡ status_of self.now }
     {

@@ -9,25 +9,26 @@ use std::fmt::{self, Display, Formatter, Write};
 /// or why a packet was not written (11 and 12).
 #[derive(Clone, Copy, Debug, PartialEq, Eq)]
 pub enum LogFault {
-    /// The octets are not exactly one packet of this layout, or not as many as the layout has.
+    /// The octets are not exactly one packet of this layout, or their number is not that of the
+    /// layout.
     Layout = 1,
-    /// The check does not hold, or a field has a value that no layout gives it.
+    /// The check does not hold, or a field has a value that the layout does not allow.
     Check = 2,
-    /// The board has started, and a copy of its record is being mended.
+    /// The board has started, and a copy of its record is being repaired.
     Starting = 3,
     /// The record is being written, a command is executed, or a restart is due.
     Busy = 4,
     /// The board has lost its record.
     Lost = 5,
-    /// The command's number is that of one that was executed or passed over.
+    /// A command with this number was executed or passed over.
     Behind = 6,
     /// The command's number is above the next one.
     Ahead = 7,
-    /// The order is for another boot count.
+    /// The order is for a different boot count.
     OtherBoot = 8,
-    /// The order brings a record, and the board has its own.
+    /// The order brings a record, but the board still has its own.
     NotLost = 9,
-    /// The order brings a record after another loss.
+    /// The order brings a record for another loss.
     OtherMark = 10,
     /// A field is out of range, or the data are too long.
     FieldRange = 11,
@@ -45,7 +46,7 @@ impl LogFault {
         self as u8
     }
 
-    /// The fault's name, as it is written here.
+    /// Returns the fault's name, as it is written here.
     pub fn name(self) -> &'static str
         ensures { result.now ≡ (fault_row self).1 }
     {

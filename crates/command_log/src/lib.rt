@@ -1,5 +1,6 @@
-//! Commands that are executed once and in order on board, over restarts at any moment: what is kept of them,
-//! what is to be done next, and the octets of all of it. It does no input or output, and takes no memory.
+//! Executes commands once and in order on board, across restarts at any moment. The crate contains the record
+//! that a board keeps, the decision on the next action, and the octets of both and of the packets. It
+//! performs no input or output, and allocates no memory.
 #![tactic(auto)]
 
 mod crc;
@@ -12,7 +13,7 @@ mod status;
 #[cfg(test)]
 mod tests;
 
-pub use crc::{check, history_after};
+pub use crc::{check, check_holds, history_after};
 pub use executor::{Action, Executor, Place, Stage};
 pub use fault::LogFault;
 pub use laws::{
@@ -20,5 +21,5 @@ pub use laws::{
     law_of_keeping, law_of_knowing, law_of_orders, law_of_rest, law_of_tearing,
 };
 pub use packets::{Command, Order, decode_command, decode_order, encode_command, encode_order};
-pub use record::{Record, decode_record, encode_record};
+pub use record::{Record, decode_fields, decode_record, encode_fields, encode_record};
 pub use status::{Status, decode_status, encode_status};

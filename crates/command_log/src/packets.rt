@@ -33,9 +33,10 @@ pub enum Order {
     Rebuild { mark: u32, boot: u32, last: u32 },
 }
 
-/// Writes the command packet at the beginning of `out`, and returns how many octets it has: 14 and those of
-/// the mission. The octets after it stay. Refuses by 11 `FieldRange` an APID above 2,047, a count above
-/// 16,383, the number 0 and more than 65,528 octets of the mission; then by 12 `Room` an output too short.
+/// Writes the command packet at the beginning of `out`, and returns its length: 14 octets and those of the
+/// mission. The octets after the packet stay unchanged. Refuses with 11 `FieldRange` an APID above 2,047, a
+/// count above 16,383, the number 0 or more than 65,528 octets of the mission. Then refuses with 12 `Room` an
+/// output that is too short.
 /// Faults: 11 FieldRange, then 12 Room. Cost: n.
 pub fn encode_command(command: &Command, out: &mut [u8]) -> Result<usize, LogFault>
     ensures answer { result ≡ command_answer (command_view command.now) (length out.old) }
@@ -120,9 +121,9 @@ fn put_header(apid: u16, count: u16, long: usize, out: &mut [u8])
     BigEndian::write_u16(third, (long - 1) as u16);
 }
 
-/// Reads the octets as a command packet. It borrows the mission's octets from them. Refuses by 1 `Layout`
-/// octets that are not exactly one such packet, and then by 2 `Check` a check that does not hold, and the
-/// number 0.
+/// Reads the octets as a command packet, which borrows the mission's octets from them. Refuses with 1
+/// `Layout` octets that are not exactly one such packet. Then refuses with 2 `Check` a check that does not
+/// hold, or the number 0.
 /// Faults: 1 Layout, then 2 Check. Cost: n.
 pub fn decode_command(octets: &[u8]) -> Result<Command<'_>, LogFault>
     ensures { map_ok command_view result ≡ command_at octets.now }
@@ -165,9 +166,9 @@ fn is_framed(octets: &[u8], least: usize) -> bool
         && usize::from(BigEndian::read_u16(&octets[4..])) + 7 == octets.len()
 }
 
-/// Writes the order as a packet at the beginning of `out`, and returns how many octets it has: 23. The octets
-/// after it stay. Refuses by 11 `FieldRange` an APID above 2,047 and a count above 16,383, and then by 12
-/// `Room` an output that is too short.
+/// Writes the order as a packet at the beginning of `out`, and returns its length: 23 octets. The octets
+/// after the packet stay unchanged. Refuses with 11 `FieldRange` an APID above 2,047 or a count above 16,383,
+/// and then with 12 `Room` an output that is too short.
 /// Faults: 11 FieldRange, then 12 Room.
 pub fn encode_order(apid: u16, count: u16, order: &Order, out: &mut [u8]) -> Result<usize, LogFault>
     ensures answer { result ≡ count_written (order_fits apid count) 23 (length out.old) faults.FieldRange faults.Room }
@@ -196,8 +197,9 @@ fn order_front(order: &Order) -> [u8; 13]
     ]
 }
 
-/// Reads the octets as an order. Refuses by 1 `Layout` octets that are not exactly one such packet, and by 2
-/// `Check` a check that does not hold, a kind that is not valid and, in a restart, a field that is not 0.
+/// Reads the octets as an order. Refuses with 1 `Layout` octets that are not exactly one such packet. Then
+/// refuses with 2 `Check` a check that does not hold, a kind that is not valid or, in a restart, a field that
+/// is not 0.
 /// Faults: 1 Layout, then 2 Check.
 pub fn decode_order(octets: &[u8]) -> Result<Order, LogFault>
     ensures { result ≡ order_at octets.now }

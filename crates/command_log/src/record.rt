@@ -16,10 +16,10 @@ pub struct Record {
     pub boot: u32,
     /// The number of the last command that was executed or passed over. Numbers begin at 1.
     pub last: u32,
-    /// Whether the next command is begun.
+    /// Whether the next command has begun.
     pub begun: bool,
-    /// A bit for each of the 64 numbers up to the last, the lowest for the last: whether it is known that
-    /// the command was executed, whole.
+    /// A bit for each of the 64 numbers up to the last; the lowest bit is for the last. It is 1 if the
+    /// command is known to have been executed completely.
     pub known: u64,
     /// The running check of the history: CRC-32 over the checks of all command packets that were taken since
     /// the record was new or was brought, in that order, including the packet of the begun command.
@@ -27,7 +27,8 @@ pub struct Record {
 }
 
 impl Record {
-    /// The record of a new board, stored at both places before it starts for the first time.
+    /// Returns the record of a new board. It is stored at both places before the board starts for the first
+    /// time.
     pub fn new_board() -> Record
         ensures { result ≡ no_commands 0 0 }
     {
@@ -41,7 +42,7 @@ impl Record {
     }
 }
 
-/// Returns the octets at a place: those of the record with their check, twice.
+/// Returns the octets of a place: the record with its check, twice.
 pub fn encode_record(kept: &Record) -> [u8; 50]
     ensures { result ≡ place_octets kept.now }
 {
@@ -57,13 +58,14 @@ fn spelled(kept: &Record) -> [u8; 25]
     ensures { result ≡ spelling kept.now }
 {
     let mut octets = [0; 25];
-    octets[..21].copy_from_slice(&front(kept));
+    octets[..21].copy_from_slice(&encode_fields(kept));
     append_check(&mut octets);
     octets
 }
 
+/// Returns the octets of a record without its check.
 #[inline(never)]
-pub(crate) fn front(kept: &Record) -> [u8; 21]
+pub fn encode_fields(kept: &Record) -> [u8; 21]
     ensures { result ≡ front_octets kept.now }
 {
     let boot = kept.boot.to_be_bytes();
@@ -95,8 +97,9 @@ pub(crate) fn front(kept: &Record) -> [u8; 21]
     ]
 }
 
-/// Returns the record at a place. Refuses by 1 `Layout` octets that are not 50, and then by 2 `Check` octets
-/// that do not spell a record, for example after a write that was cut off or if a copy was spoiled.
+/// Reads the record at a place. Refuses with 1 `Layout` a length other than 50 octets, and then with 2
+/// `Check` octets that do not spell a record, for example after a write that was cut off or if a copy was
+/// spoiled.
 /// Faults: 1 Layout, then 2 Check.
 pub fn decode_record(octets: &[u8]) -> Result<Record, LogFault>
     ensures answer { result ≡ record_spelled octets.now }
@@ -108,15 +111,16 @@ pub fn decode_record(octets: &[u8]) -> Result<Record, LogFault>
     if octets.len() != 50 {
         return Err(LogFault::Layout);
     }
-    let kept = fields_at(octets);
+    let kept = decode_fields(octets);
     if &encode_record(&kept)[..] != octets {
         return Err(LogFault::Check);
     }
     Ok(kept)
 }
 
+/// Returns the record that the first 21 octets contain, without a check.
 #[inline(never)]
-pub(crate) fn fields_at(octets: &[u8]) -> Record
+pub fn decode_fields(octets: &[u8]) -> Record
     requires { 21 ≤ length octets.now }
     ensures { result ≡ fields_of octets.now }
 {

@@ -1,4 +1,4 @@
-// What telemetry says of the board, and its octets.
+// The status of the board in telemetry, and its octets.
 
 ghost use Rattle.std.specs.Prelude.{◌≡◌, ◌≤◌, ◌<◌, ◌^◌, ℕ, length, drop, min, slice_index, Ok, Err, IfOk, OnErr};
 ghost use Rattle.command_log.specs.Layout.{front_octets, fields_of};
@@ -7,22 +7,23 @@ ghost use Rattle.command_log.specs.declared.fault.LogFault.TheVariants as faults
 
 use crate::crc::append_check;
 use crate::fault::LogFault;
-use crate::record::{Record, fields_at, front};
+use crate::record::{Record, decode_fields, encode_fields};
 
-/// What a status says.
+/// What a status reports.
 #[derive(Clone, Copy, Debug, PartialEq, Eq)]
 pub enum Status {
     /// The record, as it is at both places.
     Says(Record),
-    /// The record is being written: the status before holds.
+    /// The record is being written; the previous status holds.
     Changes,
-    /// The board has just started: the status before holds.
+    /// The board has just started; the previous status holds.
     Starts,
-    /// The board has no record; the mark of this loss.
+    /// The board has lost its record. The value is the mark of this loss.
     Lost(u32),
 }
 
-/// The octets of a status, with how many commands wait on board to be executed, at most 255.
+/// Returns the octets of a status, with the number of commands that wait on board to be executed. A number
+/// above 255 is written as 255.
 pub fn encode_status(status: &Status, waiting: usize) -> [u8; 27]
     ensures { result ≡ status_octets status.now (min waiting 255) }
 {
@@ -43,7 +44,7 @@ fn status_front(status: &Status, waiting: u8) -> [u8; 23]
 {
     let mut octets = [0; 23];
     octets[0] = kind_of(status);
-    octets[1..22].copy_from_slice(&front(&record_of(status)));
+    octets[1..22].copy_from_slice(&encode_fields(&record_of(status)));
     octets[22] = waiting;
     octets
 }
@@ -75,8 +76,8 @@ fn record_of(status: &Status) -> Record
     }
 }
 
-/// Returns the status that the octets spell, and how many commands wait. Refuses by 1 `Layout` octets that
-/// are not 27, and then by 2 `Check` octets that do not spell a status.
+/// Returns the status that the octets spell, and the number of commands that wait. Refuses with 1 `Layout` a
+/// length other than 27 octets, and then with 2 `Check` octets that do not spell a status.
 /// Faults: 1 Layout, then 2 Check.
 pub fn decode_status(octets: &[u8]) -> Result<(Status, u8), LogFault>
     ensures answer { result ≡ status_spelled octets.now }
@@ -102,7 +103,7 @@ fn status_at(octets: &[u8]) -> Status
     ensures { result ≡ status_in octets.now }
 {
     let (_, fields) = octets.split_at(1);
-    status_with(octets[0], fields_at(fields))
+    status_with(octets[0], decode_fields(fields))
 }
 
 fn status_with(kind: u8, kept: Record) -> Status

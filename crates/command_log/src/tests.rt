@@ -1,4 +1,4 @@
-// Octets that were worked by Python's struct and zlib, and a board's first command.
+// Octets that Python's struct and zlib computed, and a board's first command.
 
 use crate::*;
 use std::fmt::Debug;
@@ -41,7 +41,7 @@ const BEFORE: u32 = 0x8a3b_0c5d;
 
 const AFTER: u32 = 0x4313_d201;
 
-// A comparison that is proved once, and not at each place.
+// A comparison that is proved once, not at each use.
 fn equal<A: PartialEq + Debug>(rt: &impl Abort, left: &A, right: &A) {
     assert_eq!(*rt; *left, *right);
 }

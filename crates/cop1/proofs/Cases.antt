@@ -1,4 +1,4 @@
--- What a report, a tick, a directive or a pull may do at the sender, each with a record of its cases.
+-- What a CLCW, a tick, a directive or a pull may do to the sender, each with a record of its cases.
 use Rattle.std.proofs.Common.{◌≡◌, Bool, true, false, refl, ◌⊎◌, inl, inr, not, ◌&&◌, Option, ℕ, ◌-◌, Some, None, ◌≢◌}
 use Rattle.std.proofs.Common.{◌≤◌, Result, arith, ◌+◌, ◌%◌, List, [], ◌∷◌}
 use Rattle.std.specs.Prelude.{if◌then◌else◌, nat_lt, ◌==◌, ◌||◌}
@@ -38,7 +38,7 @@ module _ {A B : Type 0} (P : A → B → Type 0) where
   when true h k = h refl
   when false h k = k refl
 
--- What a report may do at the sender in S1 to S3.
+-- What a CLCW may do to the sender in S1 to S3.
 
 -- at a sender, and at another with the same numbers
 pub record AtEachReport {H K : Store} (s : SenderOf H) (t : SenderOf K) (c : Clcw)
@@ -51,7 +51,7 @@ pub record AtEachReport {H K : Store} (s : SenderOf H) (t : SenderOf K) (c : Clc
   pub same : P (goes_on s) (goes_on t)
   pub ceases : asks c ≡ false → c.value ≡ s.nn → (s.state ≡ S2) ⊎ (s.state ≡ S3) → P (alerts s Synch) (alerts t Synch)
   pub moves : is_outside s c.value ≡ false → P (move_on s c.value) (move_on t c.value)
-  -- units are acknowledged, and the others asked for
+  -- units are acknowledged, and retransmission of the others is requested
   pub others_over : is_outside s c.value ≡ false → asks c ≡ true → s.limit ≡ 1
       → P (after_gone (ahead_by c.value s.nn) (alerts (after_new_value s c.value) Limit))
       (after_gone (ahead_by c.value s.nn) (alerts (after_new_value t c.value) Limit))
@@ -115,15 +115,15 @@ pub heard_active : {U : Type 0} (s : FopState U) (c : Clcw) (P : FopOutcome U (O
     → AtEachReport s s c (λ o p. P o) → P (report_while_active s c)
 heard_active s c P each = heard_both s s.waiting s.sent s.bypass c (λ o p. P o) each
 
--- What a tick may do at the sender.
+-- What a tick may do to the sender.
 
 -- at a sender, and at another with the same numbers
 pub record AtEachTick {H K : Store} (s : SenderOf H) (u : SenderOf K)
     (P : OutcomeOf H (Option Alert) → OutcomeOf K (Option Alert) → Type 0) : Type 0 where
-  -- the timer is off, or does not end
+  -- the timer is off, or does not expire
   pub off : P (goes_on s) (goes_on u)
   pub runs : (left : ℕ) → P (goes_on (record s { ticks = Some left })) (goes_on (record u { ticks = Some left }))
-  -- it ends
+  -- it expires
   pub stops : P (goes_on (after_stop s)) (goes_on (after_stop u))
   pub repeats : IsActive s.state → P (goes_on (after_repeat (after_stop s))) (goes_on (after_repeat (after_stop u)))
   pub counts : P (goes_on (after_count (after_stop s))) (goes_on (after_count (after_stop u)))
@@ -161,9 +161,9 @@ pub ticked : {U : Type 0} (s : FopState U) (P : FopOutcome U (Option Alert) → 
     → P (tick_step s)
 ticked s P each = ticked_both s s.waiting s.sent s.bypass (λ o p. P o) each
 
--- What a directive may do at the sender.
+-- What a directive may do to the sender.
 
--- the sender that an initiation leads to
+-- the sender after an initiation
 abbrev pub begun : {H : Store} → SenderOf H → Directive → SenderOf H
 begun s InitWithoutCheck = record (after_begin s) { nn = s.vs; state = S1 }
 begun s InitWithCheck = record (after_restart (after_begin s)) { nn = s.vs; state = S4 }
@@ -171,7 +171,7 @@ begun s InitUnlock = record (after_begin s) { nn = s.vs; control = Due Unlock; s
 begun s (InitSetVr x) = record (after_begin s) { vs = x; nn = x; control = Due (SetVr x); state = S5 }
 begun s _ = s
 
--- what a directive sets that begins no session and sets no number: the window, the limit or the timer, or nothing
+-- what a directive sets if it begins no session and sets no number: the window, the limit, the timer or nothing
 pub record Sets {H : Store} (s : SenderOf H) (d : Directive) (k n ticks : ℕ) : Type 0 where
   pub window : (k ≡ s.window) ⊎ ((1 ≤ k) × (k ≤ s.room))
   pub limit : (n ≡ s.limit) ⊎ (d ≡ SetLimit n)
@@ -189,7 +189,7 @@ pub record AtEachDirective {H K : Store} (Q : Directive → ℕ → ℕ → ℕ 
     pub terminated : P Terminate (terminates s) (terminates v)
     pub numbers : (x : ℕ) → s.state ≡ S6
         → P (SetVs x) (obeys (record s { vs = x; nn = x })) (obeys (record v { vs = x; nn = x }))
-    -- the window, the limit and the timer are set, to what is so
+    -- the window, the limit and the timer are set, to values of which `Q` holds
     pub sets : (d : Directive) (k n ticks : ℕ) → is_initiation d ≡ false → Q d k n ticks
         → P d (obeys (record s { window = k; limit = n; timer = ticks }))
         (obeys (record v { window = k; limit = n; timer = ticks }))
@@ -239,7 +239,7 @@ module _ {U : Type 0} (s : FopState U) (P : Directive → FopOutcome U (Result (
   pub obeyed_set : AtEachDirective (Sets s) s s (λ d o p. P d o) → (d : Directive) → P d (directive_step s d)
   obeyed_set each = obeyed_both s s.waiting s.sent s.bypass (λ d o p. P d o) each
 
-  -- the window is set to no more than it was or its room is
+  -- the window is set to at most the larger of its old value and its room
   pub obeyed : AtEachDirective (λ d k n ticks. (most : ℕ) → s.window ≤ most → s.room ≤ most → k ≤ most) s s
       (λ d o p. P d o) → (d : Directive) → P d (directive_step s d)
   obeyed each = obeyed_set (record {
@@ -258,7 +258,7 @@ pub record AtEachPull {U : Type 0} (s : FopState U) (P : FopOutcome U (PulledUni
   pub command : (c : Command) → s.control ≡ Due c
       → P (pulls (record (after_restart s) { control = Sent c }) (ControlPulled c))
   pub bypass : (u : U) (us : List U) → s.bypass ≡ u ∷ us → P (pulls (record s { bypass = us }) (BypassPulled u))
-  -- a unit is sent again, or for the first time
+  -- a unit is retransmitted, or sent for the first time
   pub again : IsActive s.state → (x : ℕ × U) → oldest_marked 0 s.sent ≡ Some x
       → P (pulls (record (after_restart s) { sent = without_oldest_mark s.sent })
       (SequencePulled ((s.nn + x.0) % 256) x.1))

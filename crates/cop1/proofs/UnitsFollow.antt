@@ -1,5 +1,4 @@
--- A sender of units follows the rules over numbers: its outcomes are theirs, with the queues that their answers
--- leave.
+-- A sender of units follows the rules over numbers: its outcomes are theirs, with the queues that their answers leave.
 use denote.Bor.{Bor}
 use Rattle.circular_buffer.specs.Buffer.{keep_last, Buffer, buffer}
 use Rattle.std.proofs.Common.{◌≡◌, ◌≤◌, ◌<◌, ℕ, zero, suc, ◌+◌, ◌-◌, true, List, [], ◌∷◌, ◌++◌, length, drop, map}
@@ -40,14 +39,14 @@ use Rattle.cop1.specs.declared.fop.Fop.TheInside.{Inside}
 use Rattle.cop1.specs.FopFields.{queues_of, fop_state_of, IsSound}
 use Rattle.cop1.proofs.Cases.{when, heard_both, ticked_both, obeyed_both, begun}
 
--- The sent queue as bare units, of which the last are marked.
+-- The sent queue as bare units, the last of them marked.
 
 module _ {U : Type 0} where
   pub length-marked_last : (due : ℕ) (us : List U) → length (marked_last due us) ≡ length us
   length-marked_last due [] = refl
   length-marked_last due (u ∷ us) = ap suc (length-marked_last due us)
 
-  -- the marks are counted from the end, so they stay where units leave the front
+  -- the marks are counted from the end, so they do not move when units leave the front
   pub drop-marked_last : (due n : ℕ) (us : List U) → drop n (marked_last due us) ≡ marked_last due (drop n us)
   drop-marked_last due (suc n) (u ∷ us) = drop-marked_last due n us
   drop-marked_last due _ _ = refl
@@ -77,7 +76,7 @@ module _ {U : Type 0} where
         | inr le ↦ grind (arith, le, length_due due us le)
       ]
 
-  -- where none is marked, a unit comes after
+  -- a unit added at the end, if none is marked
   pub marked_last-push : (us : List U) (u : U) → marked_last 0 (us ++ u ∷ []) ≡ marked_last 0 us ++ unmarked_unit u ∷ []
   marked_last-push [] u = refl
   marked_last-push (x ∷ us) u = grind (arith, marked_last-push us u)
@@ -113,7 +112,7 @@ module _ {U : Type 0} where
   map-unit-marked_last due [] = refl
   map-unit-marked_last due (u ∷ us) = ap (λ us. u ∷ us) (map-unit-marked_last due us)
 
-  -- a place within a list has its element
+  -- a list has an element at each place within it
   pub slice_get-within : (us : List U) (place : ℕ) → place < length us → (u : U) × (slice_get us place ≡ Some u)
   slice_get-within [] place lt = absurd (omega arith)
   slice_get-within (u ∷ us) zero lt = (u, refl)
@@ -130,10 +129,10 @@ module _ {U : Type 0} where
 pub ruleset marks =
     (length-marked_last, drop-marked_last, map-marked_unit-marked_last, marked_last-push, map-unit-marked_last)
 
--- Two senders with the same numbers, whose units are held in two ways that the operations of the stores keep alike,
--- stay so by each report, tick and directive.
+-- Two senders have the same numbers, and their units are held in two stores whose operations keep them alike. They stay
+-- alike after each CLCW, tick and directive.
 
--- what is so of the units that wait and those sent, in one store and in another
+-- what holds of the units that wait and those sent, in one store and in another
 pub record Keeps (H K : Store) : Type 1 where
   pub Waits : H.Waiting → K.Waiting → Type 0
   pub Sends : H.Sent → K.Sent → Type 0
@@ -244,7 +243,7 @@ module _ {H K : Store} (k : Keeps H K) (room : ℕ) (b : K.Bypass) where
 -- A sender of units follows the rules over numbers: its outcomes are theirs, with the queues that their answers leave.
 
 module _ {U : Type 0} where
-  -- ---- reports, ticks and directives: the numbers stand for what is left of the queues
+  -- ---- CLCWs, ticks and directives: the numbers represent what is left of the queues
 
   pub no_units : (us : List U) (n : ℕ) → length us ≡ n → n ≡ 0 → us ≡ []
   no_units [] n e z = refl
@@ -352,7 +351,7 @@ module _ {U : Type 0} where
     directive-follows d = follows-alike s.room q _ _
         (directed (keeps q) s.room q.bypass s q.waiting _ (refl, waits_alike, sent) d)
 
-  -- ---- units that come
+  -- ---- units that are taken
 
   waited : (s : SenderNumbers) (q : Queues U) (u : U) (w : Option U) (b : Bool) → is_some w ≡ b
       → handing_back u (waits_behind (with_queues s q) u w)
@@ -367,9 +366,9 @@ module _ {U : Type 0} where
   submitted_in s q u S6 fits = refl
   submitted_in s q u _ fits = waited s q u q.waiting s.waiting fits.waiting
 
-  -- ---- units that go
+  -- ---- units that are sent
 
-  -- what goes on the link, and what a sender of units pulls
+  -- what is sent on the link, and what a sender of units pulls
   pub record Goes (s : SenderNumbers) (q : Queues U) (o : SenderOutcome (PulledUnit Which))
       (f : FopOutcome U (PulledUnit U)) : Type 0 where
     pub same : f ≡ pulled (next_outcome o) q
@@ -377,7 +376,7 @@ module _ {U : Type 0} where
     pub same_room : o.after.room ≡ s.room
     pub same_nn : o.after.nn ≡ s.nn
     pub placed : IsPlaced (taken_from (next_of o.answer) q).units (next_at o.after.nn (next_of o.answer))
-    -- the unit is there before it goes
+    -- the unit is in its queue before it is sent
     pub seen : seen_at (taken_from (next_of o.answer) q).units (next_at o.after.nn (next_of o.answer))
         ≡ peeked_at o.after.nn (next_of o.answer) q.waiting q.units
 
@@ -414,7 +413,7 @@ module _ {U : Type 0} where
         (λ t. nothing_goes s q fits)
     waiting_goes _ _ e same none = absurd cc
 
-    -- the oldest unit that is due goes again
+    -- the oldest unit that is due is retransmitted
     again_goes : 0 < s.sent.due
         → Goes s q (pulls.pull_marked s (Some (s.sent.count - s.sent.due, OneSent)))
         (pulls.pull_marked (with_queues s q) (oldest_marked 0 (marked_last s.sent.due q.units)))
@@ -456,7 +455,7 @@ module _ {U : Type 0} where
   in_state_goes s q S2 e is fits = sequence_goes s q is fits (is.agrees.numbered (λ h. cc (e, h)))
   in_state_goes s q _ e is fits = nothing_goes s q fits
 
-  -- what goes where no bypass unit goes before it
+  -- what is sent if no bypass unit is sent before it
   control_goes : (s : SenderNumbers) (q : Queues U) (control : Control) (bypass : List U)
       → first_bypass (is_due control) bypass ≡ None
       → bypass ≡ q.bypass → IsSender s → Fits s q → Goes s q (pulls.pull_control s control)
@@ -478,7 +477,7 @@ module _ {U : Type 0} where
       → Goes s q (pulls.pull_step s) (pulls.pull_step (with_queues s q))
   next-goes {s = s} {q = q} is fits e none = control_goes s q s.control q.bypass (sym e ∙ none) refl is fits
 
-  -- a bypass unit goes before any other
+  -- a bypass unit is sent before any other
   bypass_goes : (s : SenderNumbers) (q : Queues U) (control : Control) (bypass : List U) (u : U)
       → first_bypass (is_due control) bypass ≡ Some u
       → pulls.pull_control (record (with_queues s q) { bypass = bypass }) control
@@ -492,7 +491,7 @@ module _ {U : Type 0} where
   pulled-by s q None e is fits = (next-goes is fits (sym e) refl).same
   pulled-by s q (Some u) e is fits = bypass_goes s q s.control q.bypass u e
 
-  -- ---- whatever comes
+  -- ---- any input
 
   follows : (s : SenderNumbers) (q : Queues U) (input : FopInput U) → IsSender s → Fits s q
       → fop_step (with_queues s q) input ≡ by_rules s q input
@@ -506,7 +505,7 @@ module _ {U : Type 0} where
 pub follows_the_rules : (U : Type 0) → FollowsTheRules U
 follows_the_rules U s q is fits input = follows s q input is fits
 
--- How the fields of a sender of units change: as the rules over numbers say, and the queues with them.
+-- How the fields of a sender of units change: as the rules over numbers require, and the queues with them.
 
 module _ {U : Type 0} where
   pub IsFop-fop_state_of : (f : Inside U) → IsSound f → IsFop (fop_state_of f)
@@ -531,7 +530,7 @@ module _ {U : Type 0} where
         ticks = is.sender.ranges.ticks;
       }
 
-  -- once the queues are trimmed
+  -- after the queues are trimmed
   module _ {A : Type 0} (f : Inside U) {o : SenderOutcome A} {r : FopOutcome U A} {s : SenderNumbers} {w : Option U}
       {b : Buffer U}
       (follows : Follows f.sender.room (queues_of f) o r) (numbers : s ≡ o.after)

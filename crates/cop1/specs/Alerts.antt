@@ -1,11 +1,11 @@
--- What an alert says of the link, and the way on after it.
+-- What an alert shows of the link, and how to recover after it.
 use Rattle.std.specs.Prelude.{List, ℕ, ◌++◌, Bool, true, false, codes}
 use Rattle.cop1.specs.declared.vocabulary.Alert.{Alert}
 use Rattle.cop1.specs.declared.vocabulary.Alert.TheVariants.{Lockout, NnR, Clcw, Synch, Limit}
 use Rattle.cop1.specs.declared.vocabulary.Alert.TheVariants.{Timer}
 use Rattle.cop1.specs.declared.vocabulary.Alert.TheVariants.{Terminated}
 
--- it says that a condition of the link is broken
+-- the alert shows that a condition of the link is broken
 abbrev pub shows_broken : Alert → Bool
 shows_broken Lockout = true
 shows_broken NnR = true
@@ -15,16 +15,16 @@ shows_broken Limit = false
 shows_broken Timer = false
 shows_broken Terminated = false
 
--- where a condition is broken
+-- the advice if a condition is broken
 abbrev pub begin_anew : List ℕ
 begin_anew =
     codes "a condition is broken (restart on board, reordering, second station?): begin anew"
 
--- where the next session goes on from this one
+-- the advice if the next session can continue from this one
 abbrev pub resume_later : List ℕ
 resume_later = codes ": after a silent round trip, resume by a newer CLCW, if the boot count is the same"
 
--- where the sender has given up
+-- the advice after Limit and Timer
 abbrev pub give_up : List ℕ
 give_up = codes "frames or CLCWs were lost or late, or the board has no room" ++ resume_later
 

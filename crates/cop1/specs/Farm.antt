@@ -1,6 +1,6 @@
 -- The receiver, FARM-1: its variables (CCSDS 232.1-B-2, 6.1) and its state table (table 6-1), event
--- by event, one line a cell. What a line does not name stays. The columns Wait and Lockout are this
--- project's profile (docs/PROFILE.md).
+-- by event, with one line for each cell. A line leaves unchanged what it does not name. The columns
+-- Wait and Lockout are from this project's profile (docs/PROFILE.md).
 use Rattle.std.specs.Prelude.{◌≡◌, ℕ, ◌+◌, ◌-◌, ◌/◌, ◌%◌, ◌≤◌, Bool, true, false, if◌then◌else◌}
 use Rattle.std.specs.Prelude.{◌==◌, nat_lt, nat_le, List, [], ◌∷◌}
 use Rattle.cop1.specs.Modulo.{ahead_by}
@@ -23,7 +23,7 @@ pub record FarmState : Type 0 where
   pub retransmit : Bool
   pub farm_b : ℕ
 
--- the state that the lockout flag and the wait flag give
+-- the state that follows from the lockout flag and the wait flag
 abbrev pub state_of : Bool → Bool → FarmMode
 state_of true wait = Lockout
 state_of false true = Wait
@@ -48,8 +48,8 @@ new_farm width vr =
       farm_b = 0;
     }
 
--- where a number that is so far ahead of V(R) lies: the positive and the negative window are half
--- the width each
+-- where a number lies that is this far ahead of V(R); the positive and the negative window are each
+-- half the width
 abbrev pub place_at : ℕ → ℕ → Place
 place_at half ahead =
     if ahead == 0 then Expected
@@ -61,7 +61,7 @@ place_at half ahead =
 abbrev pub place_of : FarmState → ℕ → Place
 place_of s n = place_at (s.width / 2) (ahead_by n s.vr)
 
--- what becomes of a Type-AD frame, by its place, whether a buffer is free, and the state
+-- the verdict on a Type-AD frame, given its place, whether a buffer is free, and the state
 abbrev pub ad_verdict : Place → Bool → FarmMode → Verdict
 ad_verdict Expected true Open = Accepted
 ad_verdict Expected true Wait = Discarded
@@ -82,7 +82,7 @@ ad_verdict OutsideWindows free Lockout = Discarded
 abbrev pub verdict_of : FarmState → ℕ → Bool → Verdict
 verdict_of s n free = ad_verdict (place_of s n) free s.state
 
--- what a verdict does to the receiver
+-- the receiver after a verdict
 abbrev pub after_verdict : FarmState → Verdict → FarmState
 after_verdict s Accepted = record s { vr = (s.vr + 1) % 256; retransmit = false }
 after_verdict s NoBuffer = record s { retransmit = true; wait = true; state = Wait }
@@ -112,7 +112,7 @@ after_release s Open = s
 after_release s Wait = record s { wait = false; state = Open }
 after_release s Lockout = record s { wait = false }
 
--- what comes to a receiver, in the order of the table
+-- the events at a receiver, in the order of the table
 pub data FarmEvent : Type 0 where
   AdArrives : (n : ℕ) (free : Bool) → FarmEvent
   BdArrives : FarmEvent
@@ -132,18 +132,18 @@ farm_step s BufferReleased = after_release s s.state
 
 -- What holds of a receiver after any events.
 
--- a receiver after one event after another
+-- a receiver after these events, in their order
 abbrev pub farm_run : FarmState → List FarmEvent → FarmState
 farm_run s [] = s
 farm_run s (event ∷ events) = farm_run (farm_step s event) events
 
--- the wait flag comes with the retransmit flag; the state is Lockout where the lockout flag stands,
--- Wait where the wait flag stands without it, and otherwise Open
+-- If the wait flag is set, so is the retransmit flag. The state is Lockout if the lockout flag is
+-- set, Wait if the wait flag is set without it, and otherwise Open.
 pub record FlagsAgree (s : FarmState) : Type 0 where
   pub asks : s.wait ≡ true → s.retransmit ≡ true
   pub state : s.state ≡ state_of s.lockout s.wait
 
--- so it is after any events at a new receiver
+-- the flags and the state agree after any events at a new receiver
 abbrev pub FlagsAlwaysAgree : Type 0
 FlagsAlwaysAgree =
     (width vr : ℕ) (events : List FarmEvent) → FlagsAgree (farm_run (new_farm width vr) events)

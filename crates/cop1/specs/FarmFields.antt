@@ -1,10 +1,10 @@
--- The fields that describe a receiver, and what is so of every receiver.
+-- The fields that describe a receiver, and what holds of every receiver.
 use Rattle.std.specs.Prelude.{◌<◌}
 use Rattle.cop1.specs.declared.farm.FarmFields.{FarmFields}
 use Rattle.cop1.specs.Farm.{FarmState, IsWidth, state_of}
 use Rattle.cop1.specs.Farm.{FlagsAgree}
 
--- the receiver with these fields: the lockout flag and the wait flag give its state
+-- the receiver with these fields; its state follows from the lockout flag and the wait flag
 abbrev pub farm_with : FarmFields → FarmState
 farm_with f =
     record {
@@ -20,7 +20,7 @@ farm_with f =
       farm_b = f.farm_b;
     }
 
--- what is so of every receiver
+-- what holds of every receiver
 pub record IsFarm (s : FarmState) : Type 0 where
   pub width : IsWidth s.width
   pub flags : FlagsAgree s

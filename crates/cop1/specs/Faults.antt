@@ -1,4 +1,4 @@
--- The refusals of the receiver and the sender: a row each.
+-- The faults of the receiver and the sender, one row for each.
 use Rattle.std.specs.Prelude.{ℕ, List, codes}
 use Rattle.cop1.specs.declared.fault.CopFault.{CopFault}
 use Rattle.cop1.specs.declared.fault.CopFault.TheVariants.{Width, Window, Limit, Timer, Memory}

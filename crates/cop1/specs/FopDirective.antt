@@ -1,5 +1,5 @@
--- What a directive does at the sender (this project's profile of CCSDS 232.1-B-2, 5.2.4 and table
--- 5-1).
+-- How the sender responds to a directive (this project's profile of CCSDS 232.1-B-2, 5.2.4 and
+-- table 5-1).
 use Rattle.std.specs.Prelude.{◌==◌, ◌||◌, nat_lt, if◌then◌else◌, Option, Some, None, Result, Ok}
 use Rattle.std.specs.Prelude.{Err, ℕ, Bool, true, false}
 use Rattle.tc_frame.specs.declared.frame.Command.TheVariants.{Unlock, SetVr}
@@ -28,11 +28,11 @@ module _ {H : Store} where
   abbrev pub terminates : SenderOf H → OutcomeOf H (Result (Option Alert) CopFault)
   terminates s = record { after = after_alert s; answer = Ok (Some Terminated); gone = 0 }
 
-  -- an initiation begins with nothing queued to be numbered, and with the first transmission
+  -- an initiation empties the sent queue and the wait queue, and sets the transmission count to 1
   abbrev pub after_begin : SenderOf H → SenderOf H
   after_begin s = record s { sent = H.no_units; waiting = H.no_unit; count = 1 }
 
-  -- what is obeyed in S6 alone
+  -- a directive that is obeyed only in S6
   abbrev pub from_S6 : SenderOf H → FopMode → SenderOf H
       → OutcomeOf H (Result (Option Alert) CopFault)
   from_S6 s S6 next = obeys next
@@ -42,7 +42,7 @@ module _ {H : Store} where
   terminate_in s S6 = refuses s WrongState
   terminate_in s _ = terminates s
 
-  -- rules 1 to 9 of the directives, a line each
+  -- rules 1 to 9 of the directives, one line each
   abbrev pub directive_step : SenderOf H → Directive → OutcomeOf H (Result (Option Alert) CopFault)
   directive_step s InitWithoutCheck =
       from_S6 s s.state (record (after_begin s) { nn = s.vs; state = S1 })
@@ -70,7 +70,7 @@ is_initiation InitUnlock = true
 is_initiation (InitSetVr x) = true
 is_initiation _ = false
 
--- the number that V(S) is set to, where a directive carries one
+-- the number to which a directive sets V(S), if it carries one
 abbrev pub vs_carried : Directive → Option ℕ
 vs_carried (InitSetVr x) = Some x
 vs_carried (SetVs x) = Some x

@@ -1,4 +1,4 @@
--- How a sender's fields stand for its state: its numbers with its queues.
+-- How a sender's fields represent its state: its numbers and its queues.
 use Rattle.std.specs.Prelude.{◌≤◌}
 use Rattle.cop1.specs.declared.fop.Fop.TheInside.{Inside}
 use Rattle.cop1.specs.Units.{FopState}
@@ -12,7 +12,7 @@ module _ {U : Type 0} where
   abbrev pub fop_state_of : Inside U → FopState U
   fop_state_of f = with_queues f.sender (queues_of f)
 
--- what the fields keep to
+-- what holds of the fields
 pub record IsSound {U : Type 0} (f : Inside U) : Type 0 where
   pub sender : IsSender f.sender
   pub fits : Fits f.sender (queues_of f)

@@ -1,4 +1,4 @@
--- When a sender can be made, and what it is then.
+-- When a sender can be created, and its initial state.
 use Rattle.std.specs.Prelude.{ℕ, ◌/◌, ◌%◌, ◌||◌, ◌==◌, nat_lt, if◌then◌else◌, Option, Some, None}
 use Rattle.cop1.specs.declared.fault.CopFault.{CopFault}
 use Rattle.cop1.specs.declared.fault.CopFault.TheVariants.{Width, Window, Limit, Timer}
@@ -6,8 +6,8 @@ use Rattle.cop1.specs.declared.vocabulary.FopMode.TheVariants.{S6}
 use Rattle.cop1.specs.declared.vocabulary.Control.TheVariants.{Idle}
 use Rattle.cop1.specs.FopVariables.{Store, SenderOf}
 
--- what is wrong with a receiver's window width, a window, a limit and a timer's value, in this
--- order
+-- the first fault of a receiver's window width, a window, a limit and a timer's value, checked in
+-- this order
 abbrev pub new_fault : ℕ → ℕ → ℕ → ℕ → Option CopFault
 new_fault width window limit timer =
     if (width == 0) || (width % 2 == 1) then Some Width

@@ -1,4 +1,4 @@
--- What goes on the link next, the first of five rules that applies (this project's profile of
+-- What is sent on the link next, by the first of five rules that applies (this project's profile of
 -- CCSDS 232.1-B-2, 5.2.7).
 use Rattle.std.specs.Prelude.{ℕ, ◌+◌, ◌%◌, nat_lt, if◌then◌else◌}
 use Rattle.std.specs.Prelude.{Option, Some, None}
@@ -22,7 +22,8 @@ module _ {H : Store} where
   abbrev pub pulls : SenderOf H → PulledUnit H.One → OutcomeOf H (PulledUnit H.One)
   pulls s answer = record { after = s; answer = answer; gone = 0 }
 
-  -- the count where a unit is sent for the first time: it begins where the sent queue was empty
+  -- the transmission count after a unit is sent for the first time: 1 if the sent queue was empty,
+  -- and otherwise unchanged
   abbrev pub count_behind : SenderOf H → ℕ
   count_behind s = if H.is_empty s.sent then 1 else s.count
 
@@ -37,7 +38,8 @@ module _ {H : Store} where
         count = count_behind s;
       }
 
-  -- rule 4 of a pull: the wait queue's unit, where the window has room for it; else rule 5, nothing
+  -- rule 4 of a pull: the wait queue's unit, if the window has room for it; otherwise rule 5,
+  -- nothing
   abbrev pub pull_waiting : SenderOf H → Option H.One → OutcomeOf H (PulledUnit H.One)
   pull_waiting s None = pulls s NothingPulled
   pull_waiting s (Some u) =
@@ -48,7 +50,7 @@ module _ {H : Store} where
   abbrev pub next_waiting : SenderOf H → OutcomeOf H (PulledUnit H.One)
   next_waiting s = pull_waiting s (H.waiting_one s.waiting)
 
-  -- rule 3: the oldest marked unit with its number, and otherwise the wait queue's
+  -- rule 3: the oldest marked unit with its number, and otherwise the wait queue's unit
   abbrev pub pull_marked : SenderOf H → Option (ℕ × H.One) → OutcomeOf H (PulledUnit H.One)
   pull_marked s (Some oldest) =
       pulls (record (after_restart s) { sent = H.without_oldest s.sent })
@@ -68,7 +70,7 @@ module _ {H : Store} where
   pull_bypass s (Some oldest) = pulls (record s { bypass = oldest.1 }) (BypassPulled oldest.0)
   pull_bypass s None = pull_in s s.state
 
-  -- rule 1: the control command of S5, where it is due
+  -- rule 1: the control command of S5, if it is due
   abbrev pub pull_control : SenderOf H → Control → OutcomeOf H (PulledUnit H.One)
   pull_control s (Due command) =
       pulls (record (after_restart s) { control = Sent command }) (ControlPulled command)

@@ -1,4 +1,4 @@
--- What a report does at the sender, state by state and rule by rule (this project's profile of
+-- How the sender responds to a CLCW, state by state and rule by rule (this project's profile of
 -- CCSDS 232.1-B-2, table 5-1).
 use Rattle.std.specs.Prelude.{ℕ, Bool, true, not, ◌&&◌, ◌==◌, nat_lt, if◌then◌else◌}
 use Rattle.std.specs.Prelude.{Option, Some, None}
@@ -15,7 +15,7 @@ use Rattle.cop1.specs.FopVariables.{Store, SenderOf, OutcomeOf}
 use Rattle.cop1.specs.FopWords.{is_outside, after_acknowledge, after_repeat, alerts, goes_on}
 use Rattle.cop1.specs.FopWords.{after_gone}
 
--- the flags L, w and t of a report
+-- the flags L, w and t of a CLCW: Lockout, Wait and Retransmit
 abbrev pub locks : Clcw → Bool
 locks c = has_lockout c.flags
 
@@ -26,7 +26,7 @@ abbrev pub asks : Clcw → Bool
 asks c = has_retransmit c.flags
 
 module _ {H : Store} where
-  -- ---- S5, rules 14 and 15: a report without flags whose value is V(S) confirms the command
+  -- ---- S5, rules 14 and 15: a CLCW without flags whose value is V(S) confirms the command
 
   abbrev pub confirms : SenderOf H → Clcw → Bool
   confirms s c = not (locks c) && not (waits c) && not (asks c) && (c.value == s.vs)
@@ -36,7 +36,7 @@ module _ {H : Store} where
       if confirms s c then goes_on (record s { state = S1; ticks = None; control = Idle })
       else goes_on s
 
-  -- ---- S4, rules 9 to 13, a line each, the first that applies
+  -- ---- S4, rules 9 to 13, one line each; the first that applies decides
 
   abbrev pub report_in_S4 : SenderOf H → Clcw → OutcomeOf H (Option Alert)
   report_in_S4 s c =
@@ -46,45 +46,45 @@ module _ {H : Store} where
       else (if waits c then alerts s ClcwAlert
       else goes_on (record s { state = S1; ticks = None }))))
 
-  -- ---- S1 to S3, rules 1 to 8, of which the first that applies decides
+  -- ---- S1 to S3, rules 1 to 8; the first that applies decides
 
-  -- rule 5: nothing is acknowledged, and nothing asked for
+  -- rule 5: nothing is acknowledged, and no retransmission is requested
   abbrev pub nothing_new : SenderOf H → FopMode → OutcomeOf H (Option Alert)
   nothing_new s S2 = alerts s Synch
   nothing_new s S3 = alerts s Synch
   nothing_new s _ = goes_on s
 
-  -- the timer once units have left the sent queue
+  -- the timer after units have left the sent queue
   abbrev pub ticks_for : SenderOf H → Option ℕ
   ticks_for s = if H.is_empty s.sent then None else Some s.timer
 
   abbrev pub after_move_on : SenderOf H → SenderOf H
   after_move_on s = record s { state = S1; count = 1; ticks = ticks_for s }
 
-  -- rule 6: units are acknowledged, and nothing asked for
+  -- rule 6: units are acknowledged, and no retransmission is requested
   abbrev pub move_on : SenderOf H → ℕ → OutcomeOf H (Option Alert)
   move_on s v = after_gone (ahead_by v s.nn) (goes_on (after_move_on (after_acknowledge s v)))
 
-  -- the sender with the units before a number acknowledged, counting anew
+  -- the sender with the units before a number acknowledged, and the transmission count set to 1
   abbrev pub after_new_value : SenderOf H → ℕ → SenderOf H
   after_new_value s v = record (after_acknowledge s v) { count = 1 }
 
-  -- units are asked for again, which leads to a sender unless they may be sent once alone, or the
-  -- receiver waits
+  -- A retransmission is requested. The sender gives up with the alert Limit if each unit may be
+  -- sent only once, and goes to S3 if the receiver waits. Otherwise `next` is the sender after it.
   abbrev pub ask_again : SenderOf H → Bool → SenderOf H → OutcomeOf H (Option Alert)
   ask_again s wait next =
       if s.limit == 1 then alerts s Limit
       else (if wait then goes_on (record s { state = S3 })
       else goes_on next)
 
-  -- S2, with all that was sent repeated or not
+  -- S2, with or without Repeat
   abbrev pub retransmits : SenderOf H → Bool → SenderOf H
   retransmits s repeats = record (if repeats then after_repeat s else s) { state = S2 }
 
   abbrev pub goes_back : SenderOf H → Bool → OutcomeOf H (Option Alert)
   goes_back s wait = ask_again s wait (retransmits s true)
 
-  -- rule 7: units are acknowledged, and the others asked for
+  -- rule 7: units are acknowledged, and retransmission of the others is requested
   abbrev pub ask_for_others : SenderOf H → ℕ → Bool → OutcomeOf H (Option Alert)
   ask_for_others s v wait = after_gone (ahead_by v s.nn) (goes_back (after_new_value s v) wait)
 
@@ -97,7 +97,7 @@ module _ {H : Store} where
   abbrev pub ask_for_all : SenderOf H → Bool → OutcomeOf H (Option Alert)
   ask_for_all s wait = ask_again s wait (goes_back_again s s.state)
 
-  -- rules 1 to 8, a line each
+  -- rules 1 to 8, one line each
   abbrev pub report_while_active : SenderOf H → Clcw → OutcomeOf H (Option Alert)
   report_while_active s c =
       if locks c then alerts s Lockout
@@ -109,7 +109,7 @@ module _ {H : Store} where
       else (if not (c.value == s.nn) then ask_for_others s c.value (waits c)
       else ask_for_all s (waits c)))))))
 
-  -- ---- all states; rule 16: in S6 a report is ignored
+  -- ---- all states; rule 16: in S6 a CLCW is ignored
 
   abbrev pub report_in : SenderOf H → Clcw → FopMode → OutcomeOf H (Option Alert)
   report_in s c S1 = report_while_active s c

@@ -1,4 +1,4 @@
--- What a tick of the clock does at the sender (this project's profile).
+-- How the sender responds to a tick of the clock (this project's profile).
 use Rattle.std.specs.Prelude.{ℕ, ◌+◌, ◌-◌, ◌==◌, nat_lt, if◌then◌else◌, Option, Some, None}
 use Rattle.cop1.specs.declared.vocabulary.FopMode.{FopMode}
 use Rattle.cop1.specs.declared.vocabulary.FopMode.TheVariants.{S1, S2, S3, S4, S5, S6}
@@ -18,11 +18,11 @@ module _ {H : Store} where
   abbrev pub after_count : SenderOf H → SenderOf H
   after_count s = record (after_restart s) { count = s.count + 1 }
 
-  -- the sender while the count is below the limit, and otherwise the alert
+  -- the sender `next` if the count is below the limit, and otherwise the alert Timer
   abbrev pub while_below : SenderOf H → SenderOf H → OutcomeOf H (Option Alert)
   while_below s next = if nat_lt s.count s.limit then goes_on next else alerts s Timer
 
-  -- the timer has ended: rule 1 in S1 and S2, rule 2 in S3, rule 3 in S5; rule 4 is the alert
+  -- the timer has expired: rule 1 in S1 and S2, rule 2 in S3, rule 3 in S5; rule 4 is the alert
   abbrev pub timer_ended : SenderOf H → FopMode → OutcomeOf H (Option Alert)
   timer_ended s S1 = while_below s (after_repeat s)
   timer_ended s S2 = while_below s (after_repeat s)

@@ -1,5 +1,5 @@
--- What the receiver does with a Type-AD frame, and why the sender has given up: a row each. And the
--- names of the states.
+-- The verdicts of the receiver and the alerts of the sender, one row for each, and the names of the
+-- states.
 use Rattle.std.specs.Prelude.{ℕ, List, codes}
 use Rattle.cop1.specs.declared.vocabulary.Alert.{Alert}
 use Rattle.cop1.specs.declared.vocabulary.Alert.TheVariants.{Lockout, NnR, Clcw, Synch, Limit}
@@ -32,7 +32,7 @@ alert_row Limit = (5, codes "Limit")
 alert_row Timer = (6, codes "Timer")
 alert_row Terminated = (7, codes "Terminated")
 
--- a state of the sender
+-- the name of a state of the sender, in ASCII
 abbrev pub fop_mode_name : FopMode → List ℕ
 fop_mode_name S1 = codes "S1"
 fop_mode_name S2 = codes "S2"
@@ -41,7 +41,7 @@ fop_mode_name S4 = codes "S4"
 fop_mode_name S5 = codes "S5"
 fop_mode_name S6 = codes "S6"
 
--- a state of the receiver
+-- the name of a state of the receiver, in ASCII
 abbrev pub farm_mode_name : FarmMode → List ℕ
 farm_mode_name modes.Open = codes "Open"
 farm_mode_name modes.Wait = codes "Wait"

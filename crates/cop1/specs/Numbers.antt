@@ -1,4 +1,4 @@
--- The sender's numbers (CCSDS 232.1-B-2, 5.1), for units that its caller keeps, and what is so of
+-- The sender's numbers (CCSDS 232.1-B-2, 5.1), for units that its caller keeps, and what holds of
 -- every sender.
 use Rattle.std.specs.Prelude.{◌≡◌, ◌≢◌, ◌≤◌, ◌<◌, ◌↔◌, ℕ, ◌+◌, ◌-◌, ◌==◌, Bool, true, false, min}
 use Rattle.std.specs.Prelude.{if◌then◌else◌, Option, Some, None, IfSome, IsSome, is_some, IsTrue}
@@ -11,7 +11,7 @@ use Rattle.cop1.specs.declared.vocabulary.FopMode.TheVariants.{S1, S4, S5, S6}
 use Rattle.cop1.specs.declared.vocabulary.Control.{Control}
 use Rattle.cop1.specs.declared.vocabulary.Control.TheVariants.{Idle, Due, Sent}
 
--- how many units are sent, and how many of the last of them are due to be sent again
+-- how many units are sent, and how many of the last of them are due to be retransmitted
 pub record Counted : Type 0 where
   pub count : ℕ
   pub due : ℕ
@@ -19,7 +19,7 @@ pub record Counted : Type 0 where
 abbrev pub left : ℕ → Counted → Counted
 left n c = record { count = c.count - n; due = min c.due (c.count - n) }
 
--- a unit by where it is: it waits, or is sent
+-- which unit: the one that waits, or one that was sent
 pub data Which : Type 0 where
   TheWaiting : Which
   OneSent : Which
@@ -28,7 +28,7 @@ abbrev pub waiting_which : Bool → Option Which
 waiting_which true = Some TheWaiting
 waiting_which false = None
 
--- numbers in place of units
+-- a store of numbers instead of units
 abbrev pub numbers : Store
 numbers =
     record {
@@ -49,7 +49,7 @@ numbers =
       oldest_bypass = λ b. None;
     }
 
--- a sender's numbers, and what an input leads to at them
+-- a sender's numbers, and the outcome of an input for them
 abbrev pub SenderNumbers : Type 0
 SenderNumbers = SenderOf numbers
 
@@ -71,7 +71,7 @@ pub record HasRanges (s : SenderNumbers) : Type 0 where
   -- the window is from 1 to half the receiver's width
   pub least : 1 ≤ s.window
   pub window : s.window ≤ s.room
-  -- the units due again are the last of those sent
+  -- the units due to be retransmitted are the last of those sent
   pub due : s.sent.due ≤ s.sent.count
   pub limit : 1 ≤ s.limit
   pub timer : 1 ≤ s.timer
@@ -89,23 +89,23 @@ IsCommanding vs runs Idle = ⊥
 IsCommanding vs runs (Due command) = SetsTo vs command
 IsCommanding vs runs (Sent command) = IsTrue runs × SetsTo vs command
 
--- what the state says of the other numbers
+-- what holds of the other numbers in each state
 pub record AgreesWithState (s : SenderNumbers) : Type 0 where
   -- in S1 to S5 the units that are sent have the numbers from NN(R) to V(S) - 1
   pub numbered : s.state ≢ S6 → ahead_by s.vs s.nn ≡ s.sent.count
-  -- in S2 and S3 there are some, in S4 to S6 none, and in S6 none waits either
+  -- in S2 and S3 at least one unit is sent, in S4 to S6 none is, and in S6 none waits either
   pub repeating : IsActive s.state → s.state ≢ S1 → 1 ≤ s.sent.count
   pub unsent : (IsActive s.state → ⊥) → s.sent.count ≡ 0
   pub unsubmitted : s.state ≡ S6 → s.waiting ≡ false
-  -- the timer runs in S1 to S3 while units are sent, and in S4, and is off in S6
+  -- the timer runs in S1 to S3 exactly while units are sent, always in S4, and never in S6
   pub timed : IsActive s.state → IsSome s.ticks ↔ 1 ≤ s.sent.count
   pub checking : s.state ≡ S4 → IsSome s.ticks
   pub untimed : s.state ≡ S6 → s.ticks ≡ None
-  -- a control command is there in S5 alone
+  -- there is a control command in S5, and only there
   pub commanding : s.state ≡ S5 → IsCommanding s.vs (is_some s.ticks) s.control
   pub commanded : s.state ≢ S5 → s.control ≡ Idle
 
--- what is so of every sender
+-- what holds of every sender
 pub record IsSender (s : SenderNumbers) : Type 0 where
   pub ranges : HasRanges s
   pub agrees : AgreesWithState s

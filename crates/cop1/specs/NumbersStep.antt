@@ -17,9 +17,9 @@ use Rattle.cop1.specs.FopReport.{clcw_step}
 use Rattle.cop1.specs.FopTick.{tick_step}
 use Rattle.cop1.specs.Numbers.{Which, TheWaiting, OneSent, SenderNumbers, SenderOutcome}
 
--- ---- what goes on the link next, a unit by its number
+-- ---- what is sent on the link next, with a unit given by its number
 
--- a control command is due; it goes before any unit
+-- a control command is due; it is sent before any unit
 abbrev pub is_due : Control → Bool
 is_due Idle = false
 is_due (Due command) = true
@@ -38,7 +38,7 @@ next_outcome o = record { after = o.after; answer = next_of o.answer; gone = o.g
 abbrev pub next_step : SenderNumbers → SenderOutcome SenderNext
 next_step s = next_outcome (pull_step s)
 
--- ---- the answer to a report
+-- ---- the answer to a CLCW
 
 abbrev pub report_answer : SenderOutcome (Option Alert) → ReportAnswer
 report_answer o = record { released = o.gone; alert = o.answer }
@@ -52,7 +52,7 @@ pub data SenderInput : Type 0 where
   Report : (report : Clcw) → SenderInput
   Tick : SenderInput
 
--- what is answered to an input
+-- the type of the answer to an input
 abbrev pub SenderAnswer : SenderInput → Type 0
 SenderAnswer Submit = Result (Unit {0}) CopFault
 SenderAnswer (Direct directive) = Result (Option Alert) CopFault

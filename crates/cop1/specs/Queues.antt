@@ -1,5 +1,5 @@
--- A sender of units is the sender's numbers and three queues: each input is put to the rules over
--- numbers, and what is done to the queues follows from their answer.
+-- A sender of units consists of the sender's numbers and three queues. The rules over numbers
+-- decide each input, and their answer determines how the queues change.
 use Rattle.std.specs.Prelude.{◌≡◌, ℕ, Bool, true, false, nat_lt, List, [], ◌∷◌, ◌++◌, length, drop}
 use Rattle.std.specs.Prelude.{is_some, slice_get, Option, Some, None, Result, Ok}
 use Rattle.std.specs.Prelude.{Err}
@@ -31,29 +31,29 @@ pub record Queues (U : Type 0) : Type 0 where
   pub bypass : List U
 
 module _ {U : Type 0} where
-  -- the units, the last of them marked, as many as are due
+  -- the units, with the last `due` of them marked
   abbrev pub marked_last : ℕ → List U → List (SentUnit U)
   marked_last due [] = []
   marked_last due (u ∷ us) =
       record { unit = u; marked = nat_lt (length us) due } ∷ marked_last due us
 
-  -- the sender of units that numbers and queues make
+  -- the sender of units that these numbers and queues represent
   abbrev pub with_queues : SenderNumbers → Queues U → FopState U
   with_queues s q = held_by (units U) s q.waiting (marked_last s.sent.due q.units) q.bypass
 
-  -- a unit waits where the numbers say so, and as many units are sent as they say
+  -- the numbers show whether a unit waits, and how many units are sent
   pub record Fits (s : SenderNumbers) (q : Queues U) : Type 0 where
     pub waiting : is_some q.waiting ≡ s.waiting
     pub units : length q.units ≡ s.sent.count
 
-  -- ---- after a report, a tick or a directive
+  -- ---- after a CLCW, a tick or a directive
 
-  -- the unit that waits, where one still does
+  -- the unit that waits, if it still does
   abbrev pub still_waiting : Bool → Option U → Option U
   still_waiting true waiting = waiting
   still_waiting false waiting = None
 
-  -- the queues, once what the numbers no longer count is let go of
+  -- the queues, after the units that the numbers no longer count are released
   abbrev pub trimmed : SenderNumbers → Queues U → Queues U
   trimmed s q =
       record q {
@@ -65,20 +65,20 @@ module _ {U : Type 0} where
   trims q o =
       record { after = with_queues o.after (trimmed o.after q); answer = o.answer; gone = o.gone }
 
-  -- ---- once something goes on the link
+  -- ---- after something is sent on the link
 
-  -- the oldest bypass unit, but where a control command is due, which goes first
+  -- the oldest bypass unit, unless a control command is due, which is sent first
   abbrev pub first_bypass : Bool → List U → Option U
   first_bypass true bypass = None
   first_bypass false [] = None
   first_bypass false (u ∷ us) = Some u
 
-  -- the unit that waits goes to the end of the units sent
+  -- the unit that waits moves to the end of the units sent
   abbrev pub with_first : Option U → List U → List U
   with_first None units = units
   with_first (Some u) units = units ++ u ∷ []
 
-  -- the queues, once this goes on the link
+  -- the queues, after this is sent on the link
   abbrev pub waiting_after : SenderNext → Option U → Option U
   waiting_after (sends.First number) waiting = None
   waiting_after _ waiting = waiting
@@ -94,7 +94,7 @@ module _ {U : Type 0} where
         units = units_after sends q.waiting q.units;
       }
 
-  -- a unit stands as far from the oldest as its number is from NN(R)
+  -- a unit is as far from the oldest as its number is from NN(R)
   abbrev pub next_at : ℕ → SenderNext → Next U
   next_at nn sends.Nothing = next.Nothing
   next_at nn (sends.Control command) = next.Control command
@@ -106,8 +106,8 @@ module _ {U : Type 0} where
       pulls (with_queues o.after (taken_from o.answer q))
       (seen_at (taken_from o.answer q).units (next_at o.after.nn o.answer))
 
-  -- what would be pulled, where this unit waits and these were sent: a unit that was sent stands as
-  -- far from the oldest as its number is from NN(R)
+  -- What would be pulled, if this unit waits and these were sent. A unit that was sent is as far
+  -- from the oldest as its number is from NN(R).
   abbrev pub peeked_at : ℕ → SenderNext → Option U → List U → PulledUnit U
   peeked_at nn sends.Nothing waiting units = NothingPulled
   peeked_at nn (sends.Control command) waiting units = ControlPulled command
@@ -115,9 +115,9 @@ module _ {U : Type 0} where
   peeked_at nn (sends.Again number) waiting units =
       sequence_at number (slice_get units (ahead_by number nn))
 
-  -- ---- whatever comes
+  -- ---- any input
 
-  -- a unit comes: it waits, unless the numbers refuse it
+  -- a submitted unit waits, unless the numbers refuse it
   abbrev pub submitted : Queues U → U → SenderNumbers → Result (Unit {0}) CopFault
       → FopOutcome U (Result (Unit {0}) (CopFault × U))
   submitted q u s (Ok x) = handing_back u (takes (with_queues s (record q { waiting = Some u })))
@@ -138,8 +138,8 @@ module _ {U : Type 0} where
   by_rules s q (fop.Report report) = trims q (clcw_step s report)
   by_rules s q fop.Tick = trims q (tick_step s)
 
--- numbers are enough: whatever comes, a sender of units does as they say, and to its queues what
--- their answer says
+-- The numbers suffice: for any input, a sender of units follows the rules over numbers, and their
+-- answer determines how its queues change.
 abbrev pub FollowsTheRules : Type 0 → Type 0
 FollowsTheRules U = (s : SenderNumbers) (q : Queues U) → IsSender s → Fits s q
     → (input : FopInput U) → fop_step (with_queues s q) input ≡ by_rules s q input

@@ -1,11 +1,11 @@
--- What a receiver reports (CCSDS 232.0-B-4, 4.2.1): V(R), its flags and FARM-B as they are.
+-- The CLCW of a receiver (CCSDS 232.0-B-4, 4.2.1), with its current V(R), flags and FARM-B.
 use Rattle.std.specs.Prelude.{ℕ, ◌+◌, Bool, true, false}
 use Rattle.clcw.specs.declared.word.Clcw.{Clcw}
 use Rattle.clcw.specs.declared.flags.ClcwFlags.{ClcwFlags}
 use Rattle.clcw.specs.Flags.{flags_from}
 use Rattle.cop1.specs.Farm.{FarmState}
 
--- a flag's value where it is set
+-- a flag's value if it is set, and otherwise 0
 abbrev pub value_if : Bool → ℕ → ℕ
 value_if true value = value
 value_if false value = 0

@@ -1,4 +1,4 @@
--- How the fields that a caller keeps of a sender stand for its numbers.
+-- How the fields of a sender that a caller keeps represent its numbers.
 use Rattle.cop1.specs.declared.sender.SenderFields.{SenderFields}
 use Rattle.cop1.specs.Numbers.{SenderNumbers}
 

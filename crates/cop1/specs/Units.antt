@@ -1,5 +1,5 @@
--- The sender of units, each of those sent with a mark where it is to be sent again, and what is so
--- of every one.
+-- The sender of units, which marks each unit sent that is to be retransmitted, and what holds of
+-- every such sender.
 use Rattle.std.specs.Prelude.{◌≡◌, ◌≢◌, ◌≤◌, ℕ, Bool, true, false, List, [], ◌∷◌, ◌++◌, length, map}
 use Rattle.std.specs.Prelude.{drop, ◌+◌, ◌↔◌, if◌then◌else◌, Option, Some, None, IfSome, IsSome}
 use Rattle.std.specs.Prelude.{is_some}
@@ -11,7 +11,7 @@ use Rattle.cop1.specs.Numbers.{IsCommanding}
 use Rattle.cop1.specs.declared.vocabulary.FopMode.TheVariants.{S1, S4, S5, S6}
 use Rattle.cop1.specs.declared.vocabulary.Control.TheVariants.{Idle}
 
--- a unit of the sent queue, and whether it is marked to be sent again
+-- a unit of the sent queue, and whether it is marked to be retransmitted
 pub record SentUnit (U : Type 0) : Type 0 where
   pub unit : U
   pub marked : Bool
@@ -26,28 +26,28 @@ abbrev pub is_none_sent : {U : Type 0} → List (SentUnit U) → Bool
 is_none_sent [] = true
 is_none_sent (u ∷ us) = false
 
--- the units that are to be sent again
+-- the units that are to be retransmitted
 abbrev pub due_units : {U : Type 0} → List (SentUnit U) → List (SentUnit U)
 due_units sent = filter (λ u. u.marked) sent
 
--- the oldest marked unit with its place in the sent queue, which is counted from a number on
+-- the oldest marked unit with its place in the sent queue, counted from `place` on
 abbrev pub oldest_marked : {U : Type 0} → ℕ → List (SentUnit U) → Option (ℕ × U)
 oldest_marked place [] = None
 oldest_marked place (u ∷ us) =
     if u.marked then Some (place, u.unit) else oldest_marked (place + 1) us
 
--- the sent queue once that mark is gone
+-- the sent queue without that mark
 abbrev pub without_oldest_mark : {U : Type 0} → List (SentUnit U) → List (SentUnit U)
 without_oldest_mark [] = []
 without_oldest_mark (u ∷ us) =
     if u.marked then record u { marked = false } ∷ us else u ∷ without_oldest_mark us
 
--- the oldest of a queue, and the others
+-- the oldest unit of a queue, and the others
 abbrev pub oldest_of : {U : Type 0} → List U → Option (U × List U)
 oldest_of [] = None
 oldest_of (u ∷ us) = Some (u, us)
 
--- units, those sent with a mark each
+-- a store of units, in which each unit sent is marked or not
 abbrev pub units : Type 0 → Store
 units U =
     record {
@@ -68,7 +68,7 @@ units U =
       oldest_bypass = oldest_of;
     }
 
--- a sender of units, and what an input leads to at it
+-- a sender of units, and the outcome of an input
 abbrev pub FopState : Type 0 → Type 0
 FopState U = SenderOf (units U)
 
@@ -79,21 +79,23 @@ FopOutcome U A = OutcomeOf (units U) A
 abbrev pub new_fop : {U : Type 0} → ℕ → ℕ → ℕ → ℕ → FopState U
 new_fop width window limit timer = new_sender_of [] width window limit timer
 
--- what is so of every sender
+-- what holds of every sender
 pub record IsFop {U : Type 0} (s : FopState U) : Type 0 where
   -- in S1 to S5 the sent queue holds the units numbered from NN(R) to V(S) - 1
   pub numbered : s.state ≢ S6 → ahead_by s.vs s.nn ≡ length s.sent
   pub within : length s.sent ≤ s.room
   pub window : s.window ≤ s.room
-  -- in S2 and S3 there are some, in S4 to S6 none, and in S6 none waits either
+  -- in S2 and S3 the sent queue is not empty, in S4 to S6 it is empty, and in S6 no unit waits
+  -- either
   pub repeating : IsActive s.state → s.state ≢ S1 → 1 ≤ length s.sent
   pub unsent : (IsActive s.state → ⊥) → s.sent ≡ []
   pub unsubmitted : s.state ≡ S6 → s.waiting ≡ None
-  -- the timer runs in S1 to S3 while units are sent, and in S4, and is off in S6
+  -- the timer runs in S1 to S3 exactly while the sent queue is not empty, always in S4, and never
+  -- in S6
   pub timed : IsActive s.state → IsSome s.ticks ↔ 1 ≤ length s.sent
   pub checking : s.state ≡ S4 → IsSome s.ticks
   pub untimed : s.state ≡ S6 → s.ticks ≡ None
-  -- a control command is there in S5 alone
+  -- there is a control command in S5, and only there
   pub commanding : s.state ≡ S5 → IsCommanding s.vs (is_some s.ticks) s.control
   pub commanded : s.state ≢ S5 → s.control ≡ Idle
   pub limit : 1 ≤ s.limit

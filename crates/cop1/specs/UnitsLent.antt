@@ -1,4 +1,4 @@
--- What a sender ends as, once the unit that `pull` lends is let go.
+-- The final state of a sender, after the loan of the unit that `pull` lends has ended.
 use Rattle.std.specs.Prelude.{◌≡◌, ⊤}
 use Rattle.std.specs.Borrow.{Fml, RattleType, MutBor, follows_so}
 use mathlib.Core.Option.{none}

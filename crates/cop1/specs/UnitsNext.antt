@@ -1,4 +1,4 @@
--- What is pulled, as the code hands it out.
+-- What is pulled, as the code returns it.
 use Rattle.std.specs.Prelude.{ℕ, ◌<◌, List, length, map, slice_get, Option, Some, None}
 use denote.Bor.{Bor}
 use Rattle.cop1.specs.Units.{SentUnit}
@@ -18,21 +18,21 @@ module _ {U : Type 0} where
   sequence_at number None = NothingPulled
   sequence_at number (Some u) = SequencePulled number u
 
-  -- what is pulled, where these are the units of the sent queue
+  -- what is pulled, if these are the units of the sent queue
   abbrev pub seen_at : List U → Next U → PulledUnit U
   seen_at units next.Nothing = NothingPulled
   seen_at units (next.Control command) = ControlPulled command
   seen_at units (next.Bypass unit) = BypassPulled unit
   seen_at units (next.Sequence number place) = sequence_at number (slice_get units place)
 
-  -- a unit that is named by its place is there
+  -- a unit that is given by its place is in the sent queue
   abbrev pub IsPlaced : List U → Next U → Type 0
   IsPlaced units next.Nothing = Unit {0}
   IsPlaced units (next.Control command) = Unit {0}
   IsPlaced units (next.Bypass unit) = Unit {0}
   IsPlaced units (next.Sequence number place) = place < length units
 
-  -- what is pulled, with a unit in place of what stands for it
+  -- what is pulled, with each unit itself instead of what represents it
   abbrev pub seen_by : {B : Type 0} → (B → U) → Pulled U B → PulledUnit U
   seen_by unit_of pulled.Nothing = NothingPulled
   seen_by unit_of (pulled.Control command) = ControlPulled command

@@ -19,7 +19,7 @@ pub data FopInput (U : Type 0) : Type 0 where
   Report : (report : Clcw) → FopInput U
   Tick : FopInput U
 
--- what is answered to an input
+-- the type of the answer to an input
 abbrev pub Answer : {U : Type 0} → FopInput U → Type 0
 Answer {U = U} (Submit unit) = Result (Unit {0}) (CopFault × U)
 Answer {U = U} (Bypass unit) = Result (Unit {0}) (CopFault × U)
@@ -29,7 +29,7 @@ Answer (Report report) = Option Alert
 Answer Tick = Option Alert
 
 module _ {U : Type 0} where
-  -- a unit that is not taken comes back with the fault
+  -- a unit that is not taken is returned with the fault
   abbrev pub with_unit : U → Result (Unit {0}) CopFault → Result (Unit {0}) (CopFault × U)
   with_unit u (Ok x) = Ok tt
   with_unit u (Err fault) = Err (fault, u)

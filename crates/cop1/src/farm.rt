@@ -12,16 +12,16 @@ use std::marker::Model;
 pub enum FarmMode {
     /// S1: frames are accepted.
     Open,
-    /// S2: no room for a frame was left on board; a release opens again.
+    /// S2: there was no room on board for a frame; a release opens the receiver again.
     Wait,
-    /// S3: a number outside the window came; Unlock alone opens again.
+    /// S3: a number outside both windows arrived; only Unlock opens the receiver again.
     Lockout,
 }
 
 impl FarmMode {
     ghost use Rattle.cop1.specs.Names.{farm_mode_name};
 
-    /// The state's name in the standard.
+    /// Returns the state's name in the standard.
     pub fn name(self) -> &'static str
         ensures { result.now ≡ farm_mode_name self }
     {
@@ -36,15 +36,15 @@ impl FarmMode {
 /// What the receiver does with a Type-AD frame (CCSDS 232.1-B-2, table 6-1).
 #[derive(Clone, Copy, Debug, PartialEq, Eq)]
 pub enum Verdict {
-    /// The expected frame: its data is handed on, V(R) steps.
+    /// The expected frame: its data is passed on, and V(R) is incremented.
     Accepted,
-    /// In the positive window, ahead of V(R): discarded, a retransmission is asked for.
+    /// In the positive window, ahead of V(R): discarded, and a retransmission is requested.
     Ahead,
-    /// The expected frame, and no room for it: discarded, a retransmission is asked for.
+    /// The expected frame, without room for it: discarded, and a retransmission is requested.
     NoBuffer,
     /// In the negative window: a repetition, discarded.
     Behind,
-    /// Outside both windows: discarded, the receiver is locked.
+    /// Outside both windows: discarded, and the receiver enters Lockout.
     Outside,
     /// Discarded because of the state.
     Discarded,
@@ -53,7 +53,7 @@ pub enum Verdict {
 impl Verdict {
     ghost use Rattle.cop1.specs.Names.{verdict_row};
 
-    /// The verdict in a word, as lines have it.
+    /// Returns the verdict's name, as it appears in lines.
     pub fn name(self) -> &'static str
         ensures { result.now ≡ (verdict_row self).1 }
     {
@@ -68,7 +68,7 @@ impl Verdict {
     }
 }
 
-/// Where N(S) lies, seen from V(R) (CCSDS 232.1-B-2, 6.1.8).
+/// Where N(S) lies relative to V(R) (CCSDS 232.1-B-2, 6.1.8).
 #[derive(Clone, Copy)]
 pub(crate) enum Place {
     Expected,
@@ -77,7 +77,8 @@ pub(crate) enum Place {
     OutsideWindows,
 }
 
-/// The fields that make a receiver (CCSDS 232.1-B-2, 6.1), which a node may keep and go on from.
+/// The fields that determine a receiver (CCSDS 232.1-B-2, 6.1). A node may keep them and continue
+/// from them.
 #[derive(Clone, Copy, Debug, PartialEq, Eq)]
 pub struct FarmFields {
     /// The window width, even, 2 to 254.
@@ -86,7 +87,7 @@ pub struct FarmFields {
     pub vr: u8,
     /// The lockout flag.
     pub lockout: bool,
-    /// The wait flag, which comes with the retransmit flag.
+    /// The wait flag; if it is set, so is the retransmit flag.
     pub wait: bool,
     /// The retransmit flag.
     pub retransmit: bool,
@@ -94,8 +95,8 @@ pub struct FarmFields {
     pub farm_b: u8,
 }
 
-/// The receiver of one virtual channel, FARM-1 (CCSDS 232.1-B-2, section 6). Its positive and
-/// negative window are half its width each.
+/// The receiver of one virtual channel, FARM-1 (CCSDS 232.1-B-2, section 6). Its positive and its
+/// negative window are each half its width.
 #[derive(Clone, Copy)]
 pub struct Farm {
     width: u8,
@@ -144,8 +145,8 @@ impl Farm {
     ghost use Rattle.cop1.specs.Farm.{FlagsAgree};
     ghost use Rattle.cop1.specs.Farm.{IsWidth, new_farm, place_of, verdict_of, farm_step, AdArrives, BdArrives, UnlockArrives, SetVrArrives, BufferReleased};
 
-    /// An open receiver with all flags 0 and FARM-B 0, which expects the number `vr` (CCSDS 232.1-B-2,
-    /// 6.1). Refuses a width that is not even, or not from 2 to 254.
+    /// Creates a receiver in its state Open with all flags 0 and FARM-B 0, which expects the number
+    /// `vr` (CCSDS 232.1-B-2, 6.1). Refuses a width that is not an even number from 2 to 254.
     /// Faults: 1 Width.
     pub fn new(width: u8, vr: u8) -> Result<Farm, CopFault>
         ensures new_farm { IfOk result (λ f. f ≡ new_farm width vr) }
@@ -165,7 +166,8 @@ impl Farm {
         })
     }
 
-    /// The receiver with these fields, which `fields` gave. Refuses fields that no receiver has.
+    /// Creates the receiver with these fields, which `fields` returned. Refuses fields that no
+    /// receiver has.
     /// Faults: 9 State.
     #[inline(always)]
     pub fn restore(fields: FarmFields) -> Result<Farm, CopFault>
@@ -190,7 +192,7 @@ impl Farm {
         })
     }
 
-    /// The fields as they are.
+    /// Returns the receiver's current fields.
     #[inline(always)]
     pub fn fields(&self) -> FarmFields
         ensures fields { farm_with result ≡ self.now }
@@ -206,8 +208,9 @@ impl Farm {
         }
     }
 
-    /// A Type-AD frame with the number `n` has come, and there is room on board for its data or not
-    /// (CCSDS 232.1-B-2, table 6-1). Where the verdict is `Accepted` its data is handed on.
+    /// Processes a Type-AD frame with N(S) = `n`; `buffer_free` states whether there is room on
+    /// board for its data (CCSDS 232.1-B-2, table 6-1). Returns the verdict. If it is `Accepted`,
+    /// the caller passes the data on.
     #[inline(always)]
     pub fn ad(&mut self, n: u8, buffer_free: bool) -> Verdict
         ensures verdict { result ≡ verdict_of self.old n buffer_free }
@@ -261,8 +264,8 @@ impl Farm {
         }
     }
 
-    /// A Type-BD frame has come: FARM-B counts it (CCSDS 232.1-B-2, table 6-1). Its data is handed
-    /// on in every state.
+    /// Counts a Type-BD frame in FARM-B (CCSDS 232.1-B-2, table 6-1). The caller passes its data on
+    /// in every state.
     pub fn bd(&mut self)
         ensures { self.new ≡ farm_step self.old BdArrives }
     {
@@ -275,8 +278,8 @@ impl Farm {
         self.farm_b = (self.farm_b + 1) % 4;
     }
 
-    /// The control command Unlock has come: FARM-B counts it, and the receiver is open with all
-    /// flags 0 (CCSDS 232.1-B-2, table 6-1).
+    /// Executes the control command Unlock: counts it in FARM-B, opens the receiver and sets all
+    /// flags to 0 (CCSDS 232.1-B-2, table 6-1).
     pub fn unlock(&mut self)
         ensures { self.new ≡ farm_step self.old UnlockArrives }
     {
@@ -286,8 +289,8 @@ impl Farm {
         self.retransmit = false;
     }
 
-    /// The control command Set V(R) has come: FARM-B counts it, and unless the receiver is locked
-    /// it is open and expects `vr` (CCSDS 232.1-B-2, table 6-1).
+    /// Executes the control command Set V(R): counts it in FARM-B. Unless the receiver is in
+    /// Lockout, it is then open and expects `vr` (CCSDS 232.1-B-2, table 6-1).
     pub fn set_vr(&mut self, vr: u8)
         ensures { self.new ≡ farm_step self.old (SetVrArrives vr) }
     {
@@ -299,15 +302,15 @@ impl Farm {
         }
     }
 
-    /// There is room on board again (CCSDS 232.1-B-2, table 6-1).
+    /// Records that there is room on board again (CCSDS 232.1-B-2, table 6-1).
     pub fn released(&mut self)
         ensures { self.new ≡ farm_step self.old BufferReleased }
     {
         self.wait = false;
     }
 
-    /// The control word that reports the receiver as it is, for the virtual channel `vcid`, below 64
-    /// (CCSDS 232.0-B-4, 4.2). The flags for the radio channel and bit lock are 0.
+    /// The control word that reports the current state of the receiver, for the virtual channel
+    /// `vcid`, below 64 (CCSDS 232.0-B-4, 4.2). The flags for the radio channel and bit lock are 0.
     pub fn report(&self, vcid: u8) -> Clcw
         requires { vcid < 64 }
         ensures report { result ≡ report_of self.now vcid }
@@ -326,8 +329,8 @@ impl Farm {
         }
     }
 
-    /// The state, which the lockout flag and the wait flag give (CCSDS 232.1-B-2, 6.1). The wait
-    /// flag comes with the retransmit flag.
+    /// Returns the state, which follows from the lockout flag and the wait flag (CCSDS 232.1-B-2,
+    /// 6.1). If the wait flag is set, so is the retransmit flag.
     #[inline(always)]
     pub fn state(&self) -> FarmMode
         ensures state { result ≡ self.now.state }
@@ -342,35 +345,35 @@ impl Farm {
         }
     }
 
-    /// V(R), the number of the next frame to be accepted (CCSDS 232.1-B-2, 6.1).
+    /// Returns V(R), the number of the next frame to be accepted (CCSDS 232.1-B-2, 6.1).
     pub fn vr(&self) -> u8
         ensures { result ≡ self.now.vr }
     {
         self.vr
     }
 
-    /// The lockout flag (CCSDS 232.1-B-2, 6.1).
+    /// Returns the lockout flag (CCSDS 232.1-B-2, 6.1).
     pub fn lockout(&self) -> bool
         ensures { result ≡ self.now.lockout }
     {
         self.lockout
     }
 
-    /// The wait flag (CCSDS 232.1-B-2, 6.1).
+    /// Returns the wait flag (CCSDS 232.1-B-2, 6.1).
     pub fn wait(&self) -> bool
         ensures { result ≡ self.now.wait }
     {
         self.wait
     }
 
-    /// The retransmit flag (CCSDS 232.1-B-2, 6.1).
+    /// Returns the retransmit flag (CCSDS 232.1-B-2, 6.1).
     pub fn retransmit(&self) -> bool
         ensures { result ≡ self.now.retransmit }
     {
         self.retransmit
     }
 
-    /// FARM-B, the count of Type-B frames modulo 4 (CCSDS 232.1-B-2, 6.1).
+    /// Returns FARM-B, the count of Type-B frames modulo 4 (CCSDS 232.1-B-2, 6.1).
     pub fn farm_b(&self) -> u8
         ensures { result ≡ self.now.farm_b }
     {

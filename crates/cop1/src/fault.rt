@@ -16,29 +16,29 @@ pub enum CopFault {
     Limit = 3,
     /// The timer's value is not from 1 to 65,535 ticks.
     Timer = 4,
-    /// No memory was to be had.
+    /// Out of memory.
     Memory = 5,
     /// The sender is in its state Initial (S6).
     NotOpen = 6,
-    /// The wait queue's one place is taken.
+    /// The wait queue already holds its one unit.
     Busy = 7,
     /// The directive is not allowed in the sender's state.
     WrongState = 8,
-    /// No receiver or sender has the fields that were kept.
+    /// No receiver or sender has the kept fields.
     State = 9,
 }
 
 impl CopFault {
     ghost use Rattle.cop1.specs.Faults.{fault_row};
 
-    /// The fault's number, 1 to 9.
+    /// Returns the fault's number, 1 to 9.
     pub fn number(self) -> u8
         ensures { result ≡ (fault_row self).0 }
     {
         self as u8
     }
 
-    /// The fault's name, as it is written here.
+    /// Returns the fault's name, as it is written here.
     pub fn name(self) -> &'static str
         ensures { result.now ≡ (fault_row self).1 }
     {

@@ -19,8 +19,8 @@ use std::collections::VecDeque;
 use std::marker::Model;
 
 /// The sender of one virtual channel, FOP-1 (CCSDS 232.1-B-2, section 5, in this project's
-/// profile), over units of any type: the rules over numbers, and the queues. Nothing but `new` and
-/// `bypass` takes memory.
+/// profile), for units of any type: the rules over numbers, and the queues. Only `new`, `kept` and
+/// `bypass` take memory.
 #[derive(Drop)]
 pub struct Fop<U> {
     sender: Sender,
@@ -46,10 +46,11 @@ impl<U: Drop> Fop<U> {
     ghost use Rattle.cop1.specs.Units.{new_fop, IsFop, due_units};
     ghost use Rattle.cop1.specs.FopNew.{new_fault};
 
-    /// A sender in its state S6 with V(S) and NN(R) 0, to a receiver of this window width, with the
-    /// window `window` (K), the transmission limit and the timer's value in ticks (CCSDS 232.1-B-2,
-    /// 5.1). The first that applies: 1 Width (not even, 2 to 254), 2 Window (not 1 to half the
-    /// width), 3 Limit (0), 4 Timer (0), 5 Memory.
+    /// Creates a sender in its state S6 with V(S) and NN(R) 0, for a receiver of this window width
+    /// (CCSDS 232.1-B-2, 5.1). It has the window `window` (K), this transmission limit and this
+    /// timer's value in ticks. Refuses with the first fault that applies: 1 Width (not an even
+    /// number from 2 to 254), 2 Window (not from 1 to half the width), 3 Limit (0), 4 Timer (0), 5
+    /// Memory.
     /// Faults: 1 Width, 2 Window, 3 Limit, 4 Timer, 5 Memory. Memory: yes.
     pub fn new(
         alloc: Global,
@@ -76,7 +77,7 @@ impl<U: Drop> Fop<U> {
         })
     }
 
-    /// The state (CCSDS 232.1-B-2, 5.1).
+    /// Returns the state (CCSDS 232.1-B-2, 5.1).
     pub fn state(&self) -> FopMode
         ensures state { result ≡ self.now.state }
         ensures holds { IsFop self.now }
@@ -84,14 +85,15 @@ impl<U: Drop> Fop<U> {
         self.sender.fields().state
     }
 
-    /// V(S), the number of the next unit to be sent for the first time (CCSDS 232.1-B-2, 5.1).
+    /// Returns V(S), the number of the next unit to be sent for the first time (CCSDS 232.1-B-2,
+    /// 5.1).
     pub fn vs(&self) -> u8
         ensures { result ≡ self.now.vs }
     {
         self.sender.fields().vs
     }
 
-    /// NN(R), the number that the receiver was last known to expect (CCSDS 232.1-B-2, 5.1).
+    /// Returns NN(R), the number that the receiver was last known to expect (CCSDS 232.1-B-2, 5.1).
     pub fn nn(&self) -> u8
         ensures { result ≡ self.now.nn }
     {
@@ -99,7 +101,7 @@ impl<U: Drop> Fop<U> {
     }
 
     #[tactic(auto, using(crate::proofs::UnitsFollow::marks))]
-    /// How many units are sent and not acknowledged: half the largest window width at most.
+    /// Returns how many units are sent and not acknowledged: at most half the largest window width.
     pub fn sent(&self) -> usize
         ensures count { result ≡ length self.now.sent }
         ensures most { result ≤ 127 }
@@ -108,7 +110,7 @@ impl<U: Drop> Fop<U> {
         self.sent.len()
     }
 
-    /// How many of these are due to be sent again.
+    /// Returns how many of the units sent are due to be retransmitted.
     #[tactic(auto, using(crate::proofs::UnitsFollow::length_due))]
     pub fn due(&self) -> usize
         ensures { result ≡ length (due_units self.now.sent) }
@@ -116,28 +118,29 @@ impl<U: Drop> Fop<U> {
         usize::from(self.sender.fields().due)
     }
 
-    /// The transmission count, at least 1; the limit may be set below it (CCSDS 232.1-B-2, 5.1).
+    /// Returns the transmission count, at least 1; the limit may be set below it (CCSDS 232.1-B-2,
+    /// 5.1).
     pub fn count(&self) -> u8
         ensures { result ≡ self.now.count }
     {
         self.sender.fields().count
     }
 
-    /// The ticks that are left, at least 1, where the timer runs.
+    /// Returns the ticks that are left, at least 1, if the timer runs.
     pub fn ticks(&self) -> Option<u16>
         ensures { result ≡ self.now.ticks }
     {
         self.sender.fields().ticks
     }
 
-    /// How many units wait in the bypass queue.
+    /// Returns how many units wait in the bypass queue.
     pub fn bypassed(&self) -> usize
         ensures { result ≡ length self.now.bypass }
     {
         self.bypass.len()
     }
 
-    /// Whether a unit waits to be sent for the first time.
+    /// Returns whether a unit waits to be sent for the first time.
     pub fn waiting(&self) -> bool
         ensures { result ≡ is_some self.now.waiting }
     {

@@ -1,17 +1,17 @@
-// What holds of the state tables themselves, whatever comes.
+// What holds of the state tables themselves, for any input.
 
 ghost use Rattle.cop1.specs.Farm.{FlagsAlwaysAgree};
 ghost use Rattle.cop1.specs.Queues.{FollowsTheRules};
 
-/// Of the receiver's table: after any events at a new receiver the wait flag comes with the
-/// retransmit flag, the state is Lockout exactly where the lockout flag stands, and Wait exactly
-/// where the wait flag stands without it.
+/// States that after any events at a new receiver the retransmit flag is set if the wait flag is.
+/// The state is then Lockout exactly when the lockout flag is set, and Wait exactly when the wait
+/// flag is set without it.
 pub fn flags_always_agree()
     ensures { FlagsAlwaysAgree }
 {}
 
-/// Of the sender of units: whatever comes, it does as the rules over numbers say, and to its queues
-/// what their answer says.
+/// States that for any input the sender of units follows the rules over numbers, and that their
+/// answer determines how its queues change.
 pub fn law_of_senders<U>()
     ensures { FollowsTheRules U }
 {}

@@ -1,5 +1,5 @@
-//! COP-1 (CCSDS 232.1-B-2): the receiver, FARM-1, with its reports, and the sender, FOP-1, as
-//! docs/PROFILE.md has them.
+//! COP-1 (CCSDS 232.1-B-2): the receiver, FARM-1, with its CLCWs, and the sender, FOP-1, as
+//! docs/PROFILE.md defines them.
 #![tactic(auto)]
 
 mod accepted;

@@ -1,4 +1,4 @@
-// The sender's rules, FOP-1, over numbers alone.
+// The sender's rules, FOP-1, over numbers only.
 
 mod directive;
 mod pull;
@@ -14,10 +14,11 @@ pub use pull::SenderNext;
 pub use report::ReportAnswer;
 use std::marker::Model;
 
-/// The numbers of a sender (CCSDS 232.1-B-2, 5.1), which a node may keep and go on from.
+/// The numbers of a sender (CCSDS 232.1-B-2, 5.1). A node may keep them and continue from them.
 #[derive(Clone, Copy, Debug, PartialEq, Eq)]
 pub struct SenderFields {
-    /// Half the receiver's window width, 1 to 127: the most units that are sent and not acknowledged.
+    /// Half the receiver's window width, 1 to 127: the maximum number of units that are sent and
+    /// not acknowledged.
     pub room: u8,
     /// The state.
     pub state: FopMode,
@@ -29,7 +30,7 @@ pub struct SenderFields {
     pub waiting: bool,
     /// How many units are sent and not acknowledged: in S1 to S5 those from NN(R) to V(S) - 1.
     pub sent: u8,
-    /// How many of the last of these are due to be sent again.
+    /// How many of the last of these are due to be retransmitted.
     pub due: u8,
     /// The window K, 1 to half the receiver's window width.
     pub window: u8,
@@ -37,7 +38,7 @@ pub struct SenderFields {
     pub limit: u8,
     /// The timer's value, 1 to 65,535 ticks.
     pub timer: u16,
-    /// The ticks that are left, at least 1, where the timer runs.
+    /// The ticks that are left, at least 1, if the timer runs.
     pub ticks: Option<u16>,
     /// The transmission count, 1 to 255.
     pub count: u8,
@@ -46,8 +47,8 @@ pub struct SenderFields {
 }
 
 /// The rules of the sender of one virtual channel, FOP-1 (CCSDS 232.1-B-2, section 5, in this
-/// project's profile), for units that its caller keeps: one that waits, and those that are sent, under
-/// their numbers. No call takes memory.
+/// project's profile). The caller keeps the units: the one that waits, and those that are sent,
+/// under their numbers. No call takes memory.
 #[derive(Clone, Copy)]
 pub struct Sender {
     fields: SenderFields,
@@ -73,10 +74,10 @@ impl Sender {
     ghost use Rattle.cop1.specs.Numbers.{new_sender};
     ghost use Rattle.cop1.specs.FopNew.{new_fault};
 
-    /// A sender in its state S6 with V(S) and NN(R) 0, to a receiver of this window width, with the
-    /// window `window` (K), the transmission limit and the timer's value in ticks (CCSDS 232.1-B-2,
-    /// 5.1). The first that applies: 1 Width (not even, 2 to 254), 2 Window (not 1 to half the
-    /// width), 3 Limit (0), 4 Timer (0).
+    /// Creates a sender in its state S6 with V(S) and NN(R) 0, for a receiver of this window width
+    /// (CCSDS 232.1-B-2, 5.1). It has the window `window` (K), this transmission limit and this
+    /// timer's value in ticks. Refuses with the first fault that applies: 1 Width (not an even
+    /// number from 2 to 254), 2 Window (not from 1 to half the width), 3 Limit (0), 4 Timer (0).
     /// Faults: 1 Width, 2 Window, 3 Limit, 4 Timer.
     pub fn new(width: u8, window: u8, limit: u8, timer: u16) -> Result<Sender, CopFault>
         ensures made { new_fault width window limit timer ≡ None

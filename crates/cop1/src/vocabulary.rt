@@ -1,4 +1,4 @@
-// What the rules of the sender, FOP-1, speak of: states, alerts, directives, the control command.
+// The vocabulary of the sender's rules, FOP-1: states, alerts, directives and the control command.
 
 use tc_frame::Command;
 
@@ -23,7 +23,7 @@ impl FopMode {
     ghost use Rattle.std.specs.Prelude.{◌≡◌};
     ghost use Rattle.cop1.specs.Names.{fop_mode_name};
 
-    /// The state's name in the standard.
+    /// Returns the state's name in the standard.
     pub fn name(self) -> &'static str
         ensures { result.now ≡ fop_mode_name self }
     {
@@ -41,18 +41,18 @@ impl FopMode {
 /// Why the sender has given up (CCSDS 232.1-B-2, 5.2.5).
 #[derive(Clone, Copy, Debug, PartialEq, Eq)]
 pub enum Alert {
-    /// A report has the lockout flag.
+    /// The lockout flag of a CLCW is set.
     Lockout,
-    /// A report's value is no number from NN(R) to V(S).
+    /// The value of a CLCW is not a number from NN(R) to V(S).
     NnR,
-    /// A report has the wait flag without the retransmit flag.
+    /// The wait flag of a CLCW is set without the retransmit flag.
     Clcw,
-    /// A report asks for repetition where nothing is to be repeated, or no longer asks for it before
-    /// anything was acknowledged.
+    /// A CLCW requests retransmission when there is nothing to retransmit, or no longer requests it
+    /// before anything was acknowledged.
     Synch,
-    /// A report asks for units again, and each may be sent once.
+    /// A CLCW requests retransmission, and each unit may be sent only once.
     Limit,
-    /// The timer has ended, and units may not be sent again.
+    /// The timer has expired, and nothing may be sent again.
     Timer,
     /// The directive Terminate.
     Terminated,
@@ -61,9 +61,9 @@ pub enum Alert {
 /// A directive to the sender (CCSDS 232.1-B-2, 5.2.4).
 #[derive(Clone, Copy, Debug, PartialEq, Eq)]
 pub enum Directive {
-    /// Initiate without a check of the report.
+    /// Initiate without CLCW check.
     InitWithoutCheck,
-    /// Initiate once a report has the value V(S).
+    /// Initiate with CLCW check: once a CLCW has the value V(S).
     InitWithCheck,
     /// Initiate by the control command Unlock.
     InitUnlock,
@@ -71,7 +71,7 @@ pub enum Directive {
     InitSetVr(u8),
     /// Give up.
     Terminate,
-    /// Set V(S), and NN(R) to it.
+    /// Set V(S) and NN(R) to this number.
     SetVs(u8),
     /// Set the window K, 1 to half the receiver's window width.
     SetWindow(u8),
@@ -81,12 +81,12 @@ pub enum Directive {
     SetTimer(u16),
 }
 
-/// The control command of S5, and whether it has to be sent.
+/// The control command of S5, and whether it must still be sent.
 #[derive(Clone, Copy, Debug, PartialEq, Eq)]
 pub enum Control {
     /// There is none.
     Idle,
-    /// This one has to be sent.
+    /// This one must still be sent.
     Due(Command),
     /// This one was sent.
     Sent(Command),
@@ -97,7 +97,7 @@ impl Alert {
     ghost use Rattle.cop1.specs.Names.{alert_row};
     ghost use Rattle.cop1.specs.Alerts.{shows_broken, advice};
 
-    /// The alert's name, as it is written here.
+    /// Returns the alert's name, as it is written here.
     pub fn name(self) -> &'static str
         ensures { result.now ≡ (alert_row self).1 }
     {
@@ -112,12 +112,13 @@ impl Alert {
         }
     }
 
-    /// Whether it says that a condition of the link is broken: of Lockout, NnR, Clcw and Synch. None of
-    /// these can come in a session that was begun by check, Unlock or Set V(R) and is confirmed, while the
-    /// conditions hold. So there is a restart on board, a link that reorders or repeats frames, or a second
-    /// station; and before a session is confirmed there may be what an earlier one left, as a receiver in
-    /// Lockout. Limit and Timer come of frames or reports that are lost or late, or of a board without room,
-    /// and Terminated of its directive (CCSDS 232.1-B-2, 5.2.5).
+    /// Returns whether the alert shows that a condition of the link is broken: true for Lockout,
+    /// NnR, Clcw and Synch. None of these can occur in a confirmed session, begun with CLCW check,
+    /// by Unlock or by Set V(R), while the conditions hold. So there was a restart on board, the
+    /// link reorders or repeats frames, or there is a second station. Before a session is
+    /// confirmed, the cause may also be what an earlier session left, like a receiver in Lockout.
+    /// Limit and Timer result from frames or CLCWs that are lost or late, or from a board without
+    /// room. Terminated results from its directive (CCSDS 232.1-B-2, 5.2.5).
     pub fn shows_a_broken_condition(self) -> bool
         ensures { result ≡ shows_broken self }
     {
@@ -127,7 +128,7 @@ impl Alert {
         }
     }
 
-    /// What to look for after it, and the way on: a text for people.
+    /// Returns a text for people: what to look for after the alert, and how to recover.
     pub fn advice(self) -> &'static str
         ensures { result.now ≡ advice self }
     {

@@ -1,4 +1,4 @@
--- A line that says a frame is the line of that frame, and the line of a frame says it.
+-- A line that spells a frame is the line of that frame, and the line of a frame spells it.
 use Rattle.hex.specs.Hex.{encode_upper, IsBytes}
 use Rattle.std.proofs.Common.{◌≡◌, ◌∙◌, ◌≤◌, ◌&&◌, ◌++◌, ℕ, List, [], ◌∷◌, Option, Some, refl, sym, ap}
 use Rattle.std.proofs.Common.{arith, append_assoc, ◌<◌, true, length, None, Ok}
@@ -25,12 +25,12 @@ use Rattle.encode_lines.specs.Listed.{IsLineOf, frame_text, HasOctets}
 use Rattle.encode_lines.proofs.Words.{passed, same_word, number_within, number_read, data_read, ended, line_read}
 use Rattle.encode_lines.proofs.Words.{number_spelled, data_spelled, digits_word, line_words}
 
--- A line that says a frame is the line of that frame.
+-- A line that spells a frame is the line of that frame.
 
 pub flags_again : (code : ℕ) → code ≤ 3 → flags_code (flags_at code) ≡ code
 flags_again code le = grind (arith, le)
 
--- ---- the parts of a frame, and the words that say them
+-- ---- the parts of a frame, and the words that spell them
 
 pub record SaysChannel (scid vcid : List ℕ) (body : Option BodyView) (f : FrameView) : Type 0 where
   pub scid_is : scid ≡ codes "scid=" ++ decimal f.scid
@@ -178,7 +178,7 @@ pub frame_line_read : (line : List ℕ) (f : FrameView) → frame_in (without_nu
 frame_line_read line f e =
     line_read frame_in frame_text refl (λ words g h. ap ended (frame_in_read words g h) ∙ frame_words_joined g) line f e
 
--- The line of a frame says that frame.
+-- The line of a frame spells that frame.
 
 -- ---- the fields are in range
 
@@ -198,7 +198,7 @@ pub record InRange (s : SegmentView) : Type 0 where
 in_range : (s : SegmentView) → segment_fits s ≡ true → IsBytes s.payload → InRange s
 in_range s fits octets = grind (arith, common_steps, fits)
 
--- ---- its words say it
+-- ---- its words spell it
 
 flags_said : (flags : SegmentFlags) → (flags_code flags ≤ 3) × (flags_at (flags_code flags) ≡ flags)
 flags_said First = (omega arith, refl)
@@ -264,7 +264,7 @@ module _ (f : FrameView) (fits : Ranges f) where
   all_words (Bc Unlock) body octets = rw (scid_word, vcid_word) refl
   all_words (Bc (SetVr x)) body octets = rw (scid_word, vcid_word, number_word x (omega (arith, octets))) refl
 
--- the first word is no number
+-- the first word is not a number
 kinds_plain : (number_in_word 18446744073709551615 (codes "AD") ≡ None)
     × ((number_in_word 18446744073709551615 (codes "BD") ≡ None)
     × (number_in_word 18446744073709551615 (codes "BC") ≡ None))
@@ -287,7 +287,7 @@ frame_line_said check line f fits octets is =
     (frame_words_joined f) is)
     ∙ words_said f range f.body range.body octets
 
--- ---- its octets are read as it
+-- ---- its octets are read as the frame
 
 pub frame_octets_read : (check : Check) (f : FrameView) (octets : List ℕ) → frame_octets check f ≡ Some octets
     → frame_at check octets ≡ Ok f

@@ -13,7 +13,7 @@ use Rattle.encode_lines.specs.Held.{held_in, holds_octets, holds_packet}
 use Rattle.encode_lines.specs.Listed.{IsLineOf}
 use Rattle.encode_lines.proofs.Words.{ended, line_words, same_word}
 
--- ---- the words after which octets stand are words, and no numbers
+-- ---- the words that octets follow are words, and not numbers
 
 abbrev IsPlain : List ℕ → Type 0
 IsPlain word = (is_word word ≡ true) × (number_in_word 18446744073709551615 word ≡ None)

@@ -1,4 +1,4 @@
--- A line that says a packet is the line of that packet, and the line of a packet says it.
+-- A line that spells a packet is the line of that packet, and the line of a packet spells it.
 use Rattle.hex.specs.Hex.{encode_upper, IsBytes}
 use Rattle.std.proofs.Common.{◌≡◌, ◌∙◌, ◌≤◌, ◌==◌, ◌||◌, ◌++◌, ℕ, Bool, true, false, cond, List, [], ◌∷◌}
 use Rattle.std.proofs.Common.{Option, Some, None, refl, sym, ap, arith, append_assoc, ◌<◌, length, Ok}
@@ -25,7 +25,7 @@ use Rattle.encode_lines.specs.Listed.{IsLineOf, IsGap, packet_text}
 use Rattle.encode_lines.proofs.Words.{passed, same_word, number_within, number_read, data_read, ended, line_read}
 use Rattle.encode_lines.proofs.Words.{number_spelled, data_spelled, digits_word, line_words}
 
--- A line that says a packet is the line of that packet.
+-- A line that spells a packet is the line of that packet.
 
 -- ---- the words of the line of a packet
 
@@ -65,7 +65,7 @@ packet_words_joined gap p =
     joined (kind_word p.kind) (decimal (secondary_bit p.secondary)) (decimal p.apid) (decimal p.flags) (decimal p.count)
     (32 ∷ (gap_word gap ++ 32 ∷ (codes "data=" ++ encode_upper p.payload))) _ (joined_gap gap (encode_upper p.payload))
 
--- ---- what is read of words
+-- ---- what is read from words
 
 gap_case : (word : List ℕ) (gap : Option ℕ) → number_after (codes "gap=") 16383 word ≡ gap
     → bytes_eq word (codes "gap=-") || is_some gap ≡ true → (word ≡ gap_word gap) × IsGap gap
@@ -145,7 +145,7 @@ packet_line_read line p e =
           (ap (option_map (λ (x : PacketView). (gap_in words, x))) e),
     )
 
--- The line of a packet says that packet.
+-- The line of a packet spells that packet.
 
 -- ---- the fields are in range
 
@@ -158,7 +158,7 @@ pub record Ranges (p : PacketView) : Type 0 where
 ranges : (p : PacketView) → packet_fits p ≡ true → Ranges p
 ranges p fits = grind (arith, common_steps, fits)
 
--- ---- its words say it
+-- ---- its words spell it
 
 kind_said : (k : PacketKind) → kind_in (kind_word k) ≡ Some k
 unfolding kind_word
@@ -228,7 +228,7 @@ packet_line_said line p gap fits octets small is =
     (all_words gap p range octets small) (kind_plain p.kind).1 (packet_words_joined gap p) line is)
     ∙ words_said gap p range octets small
 
--- ---- its octets are read as it
+-- ---- its octets are read as the packet
 
 pub packet_octets_read : (p : PacketView) (octets : List ℕ) → packet_octets p ≡ Some octets
     → packet_at octets ≡ Ok (p, length octets)

@@ -1,4 +1,4 @@
--- What an encoder has written after lines, and which it could not read.
+-- What an encoder has written after lines, and which line it could not read.
 use Rattle.std.proofs.Common.{◌≡◌, ◌+◌, ◌++◌, ℕ, Bool, List, [], ◌∷◌, Option, Some, None, cond, refl, ap}
 use Rattle.std.specs.Prelude.{is_some}
 use Rattle.std.specs.Option.{unwrap_or}
@@ -10,7 +10,7 @@ use Rattle.encode_lines.specs.Octets.{line_octets, octets_of_lines, unreadable_a
 abbrev encoder : Bool → Check → ℕ → Option ℕ → Encoder
 encoder skips check n refused = record { skips = skips; check = check; lines = n; refused = refused }
 
--- after a line that is unreadable nothing is written, and it stays the first
+-- nothing is written after an unreadable line, and that line stays the first one
 none_written : (skips : Bool) (check : Check) (n i : ℕ) (lines : List (List ℕ))
     → answers encoding (encoder skips check n (Some i)) lines ≡ []
 none_written skips check n i [] = refl

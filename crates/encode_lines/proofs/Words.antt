@@ -1,4 +1,4 @@
--- Lines that are words, fields as words, words that say a frame, and what is found where a test or a chain of fields
+-- Lines of words, fields as words, words that spell a frame, and what is found if a test or a chain of fields
 -- answers.
 use Rattle.hex.specs.Hex.{IsBytes, decode_of, encode_upper, encode_with, decode_pairs}
 use Rattle.std.proofs.Common.{◌≡◌, ℕ, Bool, true, false, cond, List, Option, Some, None, refl, ◌∙◌, ◌<◌, ◌≤◌, ◌^◌}
@@ -22,7 +22,7 @@ use Rattle.encode_lines.specs.Listed.{IsLineOf}
 use Rattle.encode_lines.specs.Frames.{frame_of, frame_in, body_decoded, frame_decoded, digits_of}
 use Rattle.encode_lines.specs.Packets.{packet_in}
 
--- What is found where a test or a chain of fields answers.
+-- What is found if a test or a chain of fields answers.
 
 -- a test that lets a value through
 pub passed : {A : Type 0} (test : Bool) (o : Option A) (a : A) → cond test o None ≡ Some a
@@ -118,7 +118,7 @@ joined_words first (next ∷ rest) all =
     more_words first (join_with_byte 32 (next ∷ rest)) parts.0
     ∙ ap (λ (ws : List (List ℕ)). first ∷ ws) (joined_words next rest parts.1)
 
--- ---- what a line says, from what follows the number before it
+-- ---- the meaning of a line, from what follows its number
 
 module _ {A : Type 0} (in_words : List (List ℕ) → Option A) (text_of : A → List ℕ) (none : in_words [] ≡ None)
     (reads : (words : List (List ℕ)) (a : A) → in_words words ≡ Some a → ended words ≡ text_of a) where
@@ -183,28 +183,28 @@ module _ (first : List ℕ) (rest : List (List ℕ)) (text : List ℕ) (all : li
   line_words line (inl e) = bare line e
   line_words line (inr e) = behind_number line e.0 e.1 e.2
 
--- Words that say a frame, and words that say none.
+-- Words that spell a frame, and words that spell none.
 
--- where there is no body, there is no frame
+-- if there is no body, there is no frame
 pub frame_of_none : (scid vcid : List ℕ) → frame_of scid vcid None ≡ None
 frame_of_none scid vcid = grind arith
 
--- no line has fewer words than four
+-- no line of a frame has fewer than four words
 pub frame_in-few : (words : List (List ℕ)) → length words < 4 → frame_in words ≡ None
 frame_in-few (a ∷ b ∷ c ∷ d ∷ more) few = absurd (omega arith)
 frame_in-few words few = refl
 
--- no line has more words than seven
+-- no line of a frame has more than seven words
 pub frame_in-many : (words : List (List ℕ)) → 7 < length words → frame_in words ≡ None
 frame_in-many (a ∷ b ∷ c ∷ d ∷ e ∷ f ∷ g ∷ h ∷ more) many = refl
 frame_in-many words many = absurd (omega arith)
 
--- no line of a packet has fewer words than seven
+-- no line of a packet has fewer than seven words
 pub packet_in-few : (words : List (List ℕ)) → length words < 7 → packet_in words ≡ None
 packet_in-few (a ∷ b ∷ c ∷ d ∷ e ∷ f ∷ g ∷ more) few = absurd (omega arith)
 packet_in-few words few = refl
 
--- no line of a packet has more words than seven
+-- no line of a packet has more than seven words
 pub packet_in-many : (words : List (List ℕ)) → 7 < length words → packet_in words ≡ None
 packet_in-many (a ∷ b ∷ c ∷ d ∷ e ∷ f ∷ g ∷ h ∷ more) many = refl
 packet_in-many words many = absurd (omega arith)
@@ -213,7 +213,7 @@ pub no_octets : octets_of_digits [] ≡ Some []
 unfolding octets_of_digits decode_pairs encode_with
 no_octets = refl
 
--- where the digits of a body say no octets, it says none
+-- if the digits of a body spell no octets, the body is not decoded
 body_decoded-none : (b : BodyView) → octets_of_digits (digits_of b) ≡ None → body_decoded b ≡ None
 body_decoded-none (Ad n s) e = rw e refl
 body_decoded-none (Bd s) e = rw e refl

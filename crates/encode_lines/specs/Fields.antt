@@ -1,4 +1,4 @@
--- The fields of a line: words that are a key and, after it, a number or octets.
+-- The fields of a line: words that consist of a key, and a number or octets after it.
 use Rattle.std.specs.Prelude.{ℕ, ◌==◌, if◌then◌else◌, List, [], ◌∷◌, Option, Some, None}
 use Rattle.std.specs.Prelude.{option_and_then, is_some}
 use Rattle.std.specs.Result.{result_ok}
@@ -13,13 +13,13 @@ after_key (letter ∷ key) [] = None
 after_key (letter ∷ key) (octet ∷ word) =
     if octet == letter then after_key key word else None
 
--- the octets that are written so, with upper-case digits
+-- the octets that a word spells, with upper-case digits
 unfoldable pub octets_of_digits : List ℕ → Option (List ℕ)
 octets_of_digits word =
     option_and_then (λ octets. if bytes_eq word (encode_upper octets) then Some octets else None)
     (result_ok (decode_of word))
 
--- the number after a key, where it is no greater than this
+-- the number after a key, if it is not greater than this
 abbrev pub number_after : List ℕ → ℕ → List ℕ → Option ℕ
 number_after key most word = option_and_then (number_in_word most) (after_key key word)
 
@@ -27,7 +27,7 @@ number_after key most word = option_and_then (number_in_word most) (after_key ke
 abbrev pub octets_after : List ℕ → List ℕ → Option (List ℕ)
 octets_after key word = option_and_then octets_of_digits (after_key key word)
 
--- the words of a line but for the number before them, where there is one
+-- the words of a line without the number before them, if there is one
 abbrev pub without_number : List (List ℕ) → List (List ℕ)
 without_number [] = []
 without_number (word ∷ words) =

@@ -1,4 +1,4 @@
--- The telecommand frame that the words of a line of `tctool tc` say.
+-- The telecommand frame that the words of a line of `tctool tc` spell.
 use Rattle.std.specs.Prelude.{ℕ, ◌&&◌, if◌then◌else◌, List, [], ◌∷◌, codes, Option, Some, None}
 use Rattle.std.specs.Prelude.{option_map, option_and_then}
 use Rattle.std.specs.Str.{bytes_eq}
@@ -63,11 +63,11 @@ frame_in (kind ∷ scid ∷ vcid ∷ word ∷ []) = unlock_line kind scid vcid w
 frame_in (kind ∷ scid ∷ vcid ∷ word ∷ number ∷ []) = set_line kind scid vcid word number
 frame_in words = None
 
--- the octets of a frame, where its fields are in range
+-- the octets of a frame, if its fields are in range
 abbrev pub frame_octets : Check → FrameView → Option (List ℕ)
 frame_octets check f = if frame_fits check f then Some (spelling check f) else None
 
--- ---- a frame as the code reads it: it has the digits of its data in place of octets
+-- ---- a frame as the code reads it, with the digits of its data instead of octets
 
 abbrev pub segment_decoded : SegmentView → Option SegmentView
 segment_decoded s =
@@ -81,13 +81,13 @@ body_decoded (Bc command) = Some (Bc command)
 abbrev pub frame_decoded : FrameView → Option FrameView
 frame_decoded f = option_map (frame_with f.scid f.vcid) (body_decoded f.body)
 
--- the digits that a body has in place of octets
+-- the digits that a body has instead of octets
 abbrev pub digits_of : BodyView → List ℕ
 digits_of (Ad n s) = s.payload
 digits_of (Bd s) = s.payload
 digits_of (Bc command) = []
 
--- a body with these octets in place of digits
+-- a body with these octets instead of digits
 abbrev pub with_octets : BodyView → List ℕ → BodyView
 with_octets (Ad n s) octets = Ad n (record s { payload = octets })
 with_octets (Bd s) octets = Bd (record s { payload = octets })

@@ -1,11 +1,11 @@
--- The octets that a line holds after its words: of a packet, a frame or a control word.
+-- The octets that a line holds after its words: those of a packet, a frame or a CLCW.
 use Rattle.std.specs.Prelude.{ℕ, Bool, false, ◌&&◌, ◌||◌, if◌then◌else◌, List, [], ◌∷◌, codes}
 use Rattle.std.specs.Prelude.{length, nat_lt, Option, Some, None, option_and_then, is_some}
 use Rattle.std.specs.Str.{bytes_eq}
 use Rattle.streams.specs.Words.{number_in_word, octets_in_word}
 use Rattle.encode_lines.specs.Fields.{after_key}
 
--- the words after which octets stand: of a packet, of frames, and of control words
+-- the words that octets follow: those of a packet, of frames, and of CLCWs
 abbrev pub holds_octets : List ℕ → Bool
 holds_octets word =
     bytes_eq word (codes "packet") || bytes_eq word (codes "sent")
@@ -14,7 +14,7 @@ holds_octets word =
     || bytes_eq word (codes "report")
     || bytes_eq word (codes "clcw")
 
--- the words after which a MAP and a packet on it stand
+-- the words that a MAP and a packet on it follow
 abbrev pub holds_packet : List ℕ → Bool
 holds_packet word =
     bytes_eq word (codes "packet") || bytes_eq word (codes "bypass")
@@ -38,7 +38,7 @@ abbrev pub begins_fields : List ℕ → Bool
 begins_fields word =
     is_some (after_key (codes "scid=") word) || is_some (after_key (codes "secondary=") word)
 
--- whether octets are to stand in a line of these words
+-- whether a line of these words is meant to carry octets
 abbrev pub claims_octets : List (List ℕ) → Bool
 claims_octets (kind ∷ second ∷ more) =
     begins_fields second

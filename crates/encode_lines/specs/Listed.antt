@@ -1,4 +1,4 @@
--- What `tctool` lists of the octets of a line: that line.
+-- What `tctool` lists for the octets of a line: that line.
 use Rattle.std.specs.Prelude.{◌≡◌, ◌<◌, ◌≤◌, ◌^◌, ◌⊎◌, ℕ, List, ◌++◌, codes, decimal, Option, Some}
 use Rattle.std.specs.Prelude.{None}
 use Rattle.hex.specs.Hex.{IsBytes}
@@ -15,17 +15,18 @@ IsLineOf text line =
     (line ++ line_end ≡ text)
     ⊎ ((i : ℕ) × (i < 2 ^ 64) × (line ++ line_end ≡ decimal i ++ (codes " " ++ text)))
 
--- what `tctool tc` lists of a frame after its number
+-- what `tctool tc` lists for a frame after its number
 abbrev pub frame_text : FrameView → List ℕ
 frame_text f = channel_text f ++ body_line f.body
 
--- what `tctool packets` lists of a packet after its number, where so many are missing before it
+-- what `tctool packets` lists for a packet after its number, if this many packets are missing
+-- before it
 abbrev pub packet_text : Option ℕ → PacketView → List ℕ
 packet_text gap p =
     process_text (kind_word p.kind) (secondary_bit p.secondary) p.apid
     ++ (sequence_text p ++ (gap_text gap ++ octets_line p.payload))
 
--- ---- the numbers and the data of a frame are octets, as those of each frame that is read
+-- ---- the numbers and the data of a frame are octets, as in each frame that is read
 
 abbrev pub HasOctets : BodyView → Type 0
 HasOctets (Ad n s) = (n < 256) × IsBytes s.payload

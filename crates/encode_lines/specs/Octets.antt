@@ -1,4 +1,4 @@
--- The octets that lines stand for, and what an encoder writes of a text.
+-- The octets that lines represent, and what an encoder writes for a text.
 use Rattle.std.specs.Prelude.{◌≡◌, ℕ, Bool, List, [], ◌++◌, Option, unwrap_or, is_some, Result}
 use Rattle.std.specs.Prelude.{IfOk, ◌+◌, ◌==◌, ◌&&◌, if◌then◌else◌, ◌∷◌, Some, None}
 use Rattle.std.specs.Prelude.{option_and_then, not}
@@ -13,30 +13,30 @@ use Rattle.encode_lines.specs.Held.{claims_octets, held_in}
 use Rattle.encode_lines.specs.Packets.{packet_in, packet_octets}
 use Rattle.encode_lines.specs.declared.encoder.Encoder.{Encoder}
 
--- What a call appends that puts octets where there are some.
+-- What a call that puts octets appends, if there are any.
 
--- octets are appended, and the answer says whether there are any to be
+-- octets are appended, and the answer is whether there are any to append
 abbrev pub Puts : {E : Type 0} → Result Bool E → List ℕ → List ℕ → Option (List ℕ) → Type 0
 Puts result old new octets =
     IfOk result (λ good. (new ≡ old ++ unwrap_or octets []) × (good ≡ is_some octets))
 
 -- The octets of lines.
 
--- the octets of the packet that these words say, or else those that they hold
+-- the octets of the packet that these words spell, or else those that they hold
 abbrev pub packet_or_held : List (List ℕ) → Option (List ℕ)
 packet_or_held words = option_or (option_and_then packet_octets (packet_in words)) (held_in words)
 
--- the octets of the frame that these words say, or else those of a packet or that they hold
+-- the octets of the frame that these words spell, or else of a packet, or else those that they hold
 abbrev pub words_octets : Check → List (List ℕ) → Option (List ℕ)
 words_octets check words =
     option_or (option_and_then (frame_octets check) (frame_in words)) (packet_or_held words)
 
--- and, where lines without octets are skipped, none of a line that has none
+-- and, if lines without octets are skipped, none for a line that is not meant to carry any
 abbrev pub octets_or_skipped : Bool → Check → List (List ℕ) → Option (List ℕ)
 octets_or_skipped skips check words =
     if skips && not (claims_octets words) then Some [] else words_octets check words
 
--- the octets of a line: none of one that is empty or a note
+-- the octets of a line; an empty line or a note has none
 abbrev pub line_octets : Bool → Check → List ℕ → Option (List ℕ)
 line_octets skips check [] = Some []
 line_octets skips check (octet ∷ more) =
@@ -45,36 +45,36 @@ line_octets skips check (octet ∷ more) =
 
 -- ---- lines, one after another
 
--- the octets of a line and those that follow, which are left out after a line that has none
+-- the octets of a line and those that follow; nothing follows an unreadable line
 abbrev pub and_then : Option (List ℕ) → List ℕ → List ℕ
 and_then None more = []
 and_then (Some octets) more = octets ++ more
 
--- the octets of lines, up to the first one that is unreadable
+-- the octets of lines, up to the first unreadable one
 abbrev pub octets_of_lines : Bool → Check → List (List ℕ) → List ℕ
 octets_of_lines skips check [] = []
 octets_of_lines skips check (line ∷ lines) =
     and_then (line_octets skips check line) (octets_of_lines skips check lines)
 
--- this number where a line has no octets, and else what the lines after it give
+-- this number if a line has no octets, else what the lines after it give
 abbrev pub or_number : Option (List ℕ) → ℕ → Option ℕ → Option ℕ
 or_number None n more = Some n
 or_number (Some octets) n more = more
 
--- the number of the first of these lines that is unreadable, where so many stand before them
+-- the number of the first unreadable line, with this many lines before these
 abbrev pub unreadable_after : Bool → Check → ℕ → List (List ℕ) → Option ℕ
 unreadable_after skips check n [] = None
 unreadable_after skips check n (line ∷ lines) =
     or_number (line_octets skips check line) (n + 1) (unreadable_after skips check (n + 1) lines)
 
--- the octets of a text, and the number of its first line that is unreadable
+-- the octets of a text, and the number of its first unreadable line
 abbrev pub octets_in : Bool → Check → List ℕ → List ℕ
 octets_in skips check text = octets_of_lines skips check (lines_of text)
 
 abbrev pub unreadable_in : Bool → Check → List ℕ → Option ℕ
 unreadable_in skips check text = unreadable_after skips check 0 (lines_of text)
 
--- An encoder as a player of lines: after the first one that is unreadable it writes nothing.
+-- An encoder as a player of lines; it writes nothing after the first unreadable line.
 
 -- before the first line
 abbrev pub fresh : Bool → Check → Encoder
@@ -83,7 +83,7 @@ fresh skips check = record { skips = skips; check = check; lines = 0; refused = 
 abbrev pub answer_to : Encoder → List ℕ → List ℕ
 answer_to e line = if is_some e.refused then [] else unwrap_or (line_octets e.skips e.check line) []
 
--- the number of the first line that is unreadable, once this one is read
+-- the number of the first unreadable line, once this line is read
 abbrev pub refused_after : Encoder → List ℕ → Option ℕ
 refused_after e line =
     if is_some e.refused then e.refused

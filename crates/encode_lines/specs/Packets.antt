@@ -1,4 +1,4 @@
--- The space packet that the words of a line of `tctool packets` say.
+-- The space packet that the words of a line of `tctool packets` spell.
 use Rattle.std.specs.Prelude.{ℕ, ◌==◌, ◌||◌, Bool, if◌then◌else◌, List, [], ◌∷◌, codes}
 use Rattle.std.specs.Prelude.{Option, Some, None, option_map, option_and_then, is_some}
 use Rattle.std.specs.Str.{bytes_eq}
@@ -14,7 +14,7 @@ kind_in word =
     else if bytes_eq word (codes "TM") then Some Telemetry
     else None
 
--- how many packets are missing, as a number or a dash; whether they are is not looked at
+-- how many packets are missing, as a number or a dash; whether they are missing is not checked
 abbrev pub is_gap : List ℕ → Bool
 is_gap word = bytes_eq word (codes "gap=-") || is_some (number_after (codes "gap=") 16383 word)
 
@@ -28,7 +28,7 @@ packet_with kind secondary apid flags count octets = record {
   payload = octets;
 }
 
--- the packet of these fields, of which one that is not there leaves none
+-- the packet of these fields; none if one of them is absent
 abbrev pub packet_of : Option PacketKind → Option ℕ → Option ℕ → Option ℕ → Option ℕ
     → Option (List ℕ) → Option PacketView
 packet_of kind secondary apid flags count payload =
@@ -50,10 +50,10 @@ packet_in (kind ∷ secondary ∷ apid ∷ flags ∷ count ∷ gap ∷ payload �
     packet_line kind secondary apid flags count gap payload
 packet_in words = None
 
--- the octets of a packet, where its fields are in range
+-- the octets of a packet, if its fields are in range
 abbrev pub packet_octets : PacketView → Option (List ℕ)
 packet_octets p = if packet_fits p then Some (spelling p) else None
 
--- a packet as the code reads it has the digits of its data in place of octets
+-- a packet as the code reads it has the digits of its data instead of octets
 abbrev pub packet_decoded : PacketView → Option PacketView
 packet_decoded p = option_map (λ octets. record p { payload = octets }) (octets_of_digits p.payload)

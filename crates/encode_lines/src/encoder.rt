@@ -14,8 +14,8 @@ use std::alloc::{AllocError, Global};
 use streams::{Player, Sink, Source, StreamFault, play_stream};
 use tc_frame::Check;
 
-// Appends the octets of the packet that these words say, or else those that they hold, and says whether there
-// are some.
+// Appends the octets of the packet that these words spell, or else those that they hold, and returns whether
+// there are any.
 fn put_packet_or_held(
     alloc: Global,
     words: &[&[u8]],
@@ -35,8 +35,8 @@ fn put_packet_or_held(
     }
 }
 
-// Appends the octets of the frame that these words say, or else those of a packet or that they hold, and says
-// whether there are some.
+// Appends the octets of the frame that these words spell, or else of a packet, or else those that they hold.
+// It returns whether there are any.
 fn put_words(
     alloc: Global,
     check: Check,
@@ -54,7 +54,8 @@ fn put_words(
     put_packet_or_held(alloc, words, text)
 }
 
-// And appends nothing, where lines without octets are skipped and these words have none.
+// Does the same, but appends nothing if lines without octets are skipped and these words are not
+// meant to carry any.
 fn put_or_skip(
     alloc: Global,
     skips: bool,
@@ -71,7 +72,7 @@ fn put_or_skip(
     put_words(alloc, check, words, text)
 }
 
-// Appends the octets of a line, and says whether it is one that has octets, or is skipped.
+// Appends the octets of a line, and returns whether the line has octets or is skipped.
 fn put_line(
     alloc: Global,
     skips: bool,
@@ -91,7 +92,7 @@ fn put_line(
     }
 }
 
-// Makes octets of lines, up to the first one that is unreadable.
+// Encodes lines, up to the first unreadable one.
 #[derive(Drop)]
 pub struct Encoder {
     // Whether lines without octets are skipped.
@@ -100,14 +101,14 @@ pub struct Encoder {
     check: Check,
     // How many lines there were.
     lines: u64,
-    // The number of the first line that is unreadable.
+    // The number of the first unreadable line.
     refused: Option<u64>,
 }
 
 impl Encoder {
     ghost use Rattle.encode_lines.specs.Octets.{fresh};
 
-    // Before the first line.
+    // Creates an encoder before the first line.
     fn new(skips: bool, check: Check) -> Self
         ensures { result ≡ fresh skips check }
     {
@@ -139,12 +140,13 @@ impl Player<Vec<u8>> for Encoder {
 }
 
 /// Reads lines in pieces, and writes the octets of the lines of each piece before it reads the next. It
-/// answers the number of the first line that is unreadable, from 1 on. Lines after it are read, and nothing
-/// is written of them.
+/// returns the number of the first unreadable line, from 1 on. Lines after it are read, and nothing is
+/// written for them.
 ///
 /// A line is one that `tctool tc` or `tctool packets` writes, or holds octets after its words, with or
-/// without its number. One that is empty, or begins with `#`, has no octets; with `skips` neither has one in
-/// which no octets are to stand. With `Check::On` the telecommand frames of fields have their FECF.
+/// without its number. An empty line, or one that begins with `#`, has no octets. With `skips`, a line that
+/// is not meant to carry octets has none either. With `Check::On`, telecommand frames that are spelled by
+/// their fields get their FECF.
 /// Faults: Read, Write, Memory, TooLong. Memory: yes. Cost: the number of octets read and written.
 pub fn encode_stream<R: Source, W: Sink>(
     alloc: Global,

@@ -1,4 +1,4 @@
-// Fields of a line: a key and, after it, a number or octets.
+// Fields of a line: a key, and a number or octets after it.
 
 ghost use Rattle.std.specs.Prelude.{◌≡◌, ◌≤◌, map, option_copied, option_map, IfOk, IfSome};
 ghost use Rattle.streams.specs.Words.{words_in};
@@ -7,7 +7,7 @@ ghost use Rattle.encode_lines.specs.Fields.{after_key, number_after, octets_of_d
 use std::alloc::{AllocError, Global};
 use streams::{cut, number_in_word};
 
-/// What follows a key in a word that begins with it.
+/// Returns what follows a key in a word that begins with it.
 pub fn after_key<'a>(word: &'a [u8], key: &[u8]) -> Option<&'a [u8]>
     ensures { option_copied result ≡ after_key key.now word.now }
 {
@@ -20,7 +20,7 @@ pub fn after_key<'a>(word: &'a [u8], key: &[u8]) -> Option<&'a [u8]>
     }
 }
 
-/// The number after a key, where it is no greater than `most`.
+/// Returns the number after a key, if it is not greater than `most`.
 pub fn number_after(word: &[u8], key: &[u8], most: u64) -> Option<u64>
     ensures number { result ≡ number_after key.now most word.now }
     ensures most { IfSome result (λ n. n ≤ most) }
@@ -28,7 +28,7 @@ pub fn number_after(word: &[u8], key: &[u8], most: u64) -> Option<u64>
     number_in_word(after_key(word, key)?, most)
 }
 
-/// The octets that are written so, with upper-case digits.
+/// Returns the octets that a word spells, with upper-case digits.
 #[tactic(auto, unfolding(crate::specs::Fields::octets_of_digits))]
 pub fn octets_of_digits(alloc: Global, word: &[u8]) -> Result<Option<Vec<u8>>, AllocError>
     ensures { IfOk result (λ octets. option_map (λ some. some.items) octets ≡ octets_of_digits word.now) }
@@ -47,7 +47,7 @@ pub fn octets_of_digits(alloc: Global, word: &[u8]) -> Result<Option<Vec<u8>>, A
     }
 }
 
-/// The words of a line, which one space parts.
+/// Returns the words of a line, which one space separates.
 pub fn words_in<'a>(alloc: Global, line: &'a [u8]) -> Result<Vec<&'a [u8]>, AllocError>
     ensures { IfOk result (λ words. map (λ word. word.now) words.items ≡ words_in line.now) }
 {
@@ -63,7 +63,7 @@ pub fn words_in<'a>(alloc: Global, line: &'a [u8]) -> Result<Vec<&'a [u8]>, Allo
     }
 }
 
-/// The words of a line but for the number before them, where there is one.
+/// Returns the words of a line without the number before them, if there is one.
 pub fn without_number<'w, 'a>(words: &'w [&'a [u8]]) -> &'w [&'a [u8]]
     ensures { map (λ word. word.now) result.now ≡ without_number (map (λ word. word.now) words.now) }
 {

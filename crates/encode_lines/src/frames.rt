@@ -1,4 +1,4 @@
-// The telecommand frame that a line says.
+// The telecommand frame that a line spells.
 
 ghost use Rattle.std.specs.Prelude.{◌≡◌, map, option_map, option_and_then, Some};
 ghost use Rattle.tc_frame.specs.Layout.{frame_view, body_view, segment_view};
@@ -8,7 +8,7 @@ use crate::fields::{after_key, number_after};
 use streams::{is, number_in_word};
 use tc_frame::{Body, Command, Segment, SegmentFlags, SegmentHeader, TcFrame};
 
-// The segment that these words say, with the digits of its data in place of octets.
+// Returns the segment that these words spell, with the digits of its data instead of octets.
 fn segment_of<'a>(flags: &[u8], map: &[u8], payload: &'a [u8]) -> Option<Segment<'a>>
     ensures { option_and_then segment_decoded (option_map segment_view result)
         ≡ segment_of flags.now map.now payload.now }
@@ -23,7 +23,7 @@ fn segment_of<'a>(flags: &[u8], map: &[u8], payload: &'a [u8]) -> Option<Segment
     Some(Segment { header, payload })
 }
 
-// The frame of this channel with this body.
+// Returns the frame of this channel with this body.
 fn frame_of<'a>(scid: &[u8], vcid: &[u8], body: Body<'a>) -> Option<TcFrame<'a>>
     ensures { option_and_then frame_decoded (option_map frame_view result)
         ≡ frame_of scid.now vcid.now (body_decoded (body_view body.entry)) }
@@ -109,7 +109,7 @@ fn set_line<'a>(
     }
 }
 
-/// The frame that the words of a line say, with the digits of its data in place of octets.
+/// Returns the frame that the words of a line spell, with the digits of its data instead of octets.
 pub fn frame_in<'a>(words: &[&'a [u8]]) -> Option<TcFrame<'a>>
     ensures { option_and_then frame_decoded (option_map frame_view result)
         ≡ frame_in (map (λ word. word.now) words.now) }

@@ -1,4 +1,4 @@
-// The octets that a line holds after its words: of a packet, a frame or a control word.
+// The octets that a line holds after its words: those of a packet, a frame or a CLCW.
 
 ghost use Rattle.std.specs.Prelude.{◌≡◌, map, option_and_then, option_map};
 ghost use Rattle.streams.specs.Words.{octets_in_word};
@@ -9,7 +9,7 @@ use crate::fields::after_key;
 use std::alloc::{AllocError, Global};
 use streams::{is, number_in_word, octets_in_word};
 
-// Whether octets stand after a word.
+// Returns whether octets follow a word.
 fn holds_octets(word: &[u8]) -> bool
     ensures { result ≡ holds_octets word.now }
 {
@@ -21,14 +21,14 @@ fn holds_octets(word: &[u8]) -> bool
         || is(word, "clcw")
 }
 
-// Whether a MAP and a packet on it stand after a word.
+// Returns whether a MAP and a packet on it follow a word.
 fn holds_packet(word: &[u8]) -> bool
     ensures { result ≡ holds_packet word.now }
 {
     is(word, "packet") || is(word, "bypass") || is(word, "submit")
 }
 
-/// The digits of the octets that these words hold.
+/// Returns the digits of the octets that these words hold.
 pub fn digits_in<'a>(words: &[&'a [u8]]) -> Option<&'a [u8]>
     ensures { option_map (λ word. word.now) result ≡ digits_in (map (λ word. word.now) words.now) }
 {
@@ -41,7 +41,7 @@ pub fn digits_in<'a>(words: &[&'a [u8]]) -> Option<&'a [u8]>
     }
 }
 
-/// Appends the octets of digits, and says whether they are octets.
+/// Appends the octets that digits spell, and returns whether they spell octets.
 pub fn put_digits(alloc: Global, digits: &[u8], text: &mut Vec<u8>) -> Result<bool, AllocError>
     ensures { Puts result text.old.items text.new.items (octets_in_word digits.now) }
 {
@@ -54,14 +54,14 @@ pub fn put_digits(alloc: Global, digits: &[u8], text: &mut Vec<u8>) -> Result<bo
     }
 }
 
-// Whether the fields of a frame or a packet begin with a word.
+// Returns whether the fields of a frame or a packet begin with a word.
 fn begins_fields(word: &[u8]) -> bool
     ensures { result ≡ begins_fields word.now }
 {
     after_key(word, b"scid=").is_some() || after_key(word, b"secondary=").is_some()
 }
 
-/// Whether octets are to stand in a line of these words.
+/// Returns whether a line of these words is meant to carry octets.
 pub fn claims_octets(words: &[&[u8]]) -> bool
     ensures { result ≡ claims_octets (map (λ word. word.now) words.now) }
 {

@@ -1,4 +1,4 @@
-// Laws of the definitions: what is made of a line has that line.
+// Laws of the definitions: the octets made from a line have that line.
 
 ghost use Rattle.std.specs.Prelude.{◌≡◌, ◌≤◌, ◌++◌, codes, decimal, ℕ, List, Option, true, length, Some, Ok};
 ghost use Rattle.hex.specs.Hex.{IsBytes};
@@ -18,8 +18,8 @@ ghost use Rattle.encode_lines.specs.Held.{held_in, holds_octets, holds_packet};
 ghost use Rattle.encode_lines.specs.Packets.{packet_in, packet_octets};
 ghost use Rattle.encode_lines.specs.Listed.{IsLineOf, HasOctets, IsGap, frame_text, packet_text};
 
-/// A line says the frame of which `tctool tc` writes it, with or without its number, and no other. The octets
-/// that are made of that frame are read as it.
+/// A line spells the frame for which `tctool tc` writes it, with or without its number, and no other frame.
+/// The octets made from that frame are read as that frame.
 pub fn law_of_frame_lines()
     ensures says { (line : List ℕ) (f : FrameView) → frame_in (without_number (words_in line)) ≡ Some f
         → IsLineOf (frame_text f) line }
@@ -30,8 +30,9 @@ pub fn law_of_frame_lines()
         → frame_octets check f ≡ Some octets → frame_at check octets ≡ Ok f }
 {}
 
-/// A line says the packet of which `tctool packets` writes it, with or without its number and whatever number
-/// of packets is missing before it, and no other. The octets that are made of that packet are read as it.
+/// A line spells the packet for which `tctool packets` writes it, with or without its number and whatever
+/// number of packets is missing before it. It spells no other packet. The octets made from that packet are
+/// read as that packet.
 pub fn law_of_packet_lines()
     ensures says { (line : List ℕ) (p : PacketView) → packet_in (without_number (words_in line)) ≡ Some p
         → (gap : Option ℕ) × IsGap gap × IsLineOf (packet_text gap p) line }
@@ -42,9 +43,9 @@ pub fn law_of_packet_lines()
         → packet_at octets ≡ Ok (p, length octets) }
 {}
 
-/// A line that is a word and octets, or a word, a MAP and octets, holds these octets, with or without its
-/// number: as the nodes write and read `sent`, `frame`, `telemetry`, `report` and `clcw`, and `tctool map`
-/// its packets.
+/// A line of a word and octets, or of a word, a MAP and octets, holds these octets, with or without its
+/// number. The nodes write and read `sent`, `frame`, `telemetry`, `report` and `clcw` so, and `tctool map`
+/// writes its packets so.
 pub fn law_of_octets_in_lines()
     ensures octets { (word octets digits line : List ℕ) → holds_octets word ≡ true → IsHex octets digits
         → IsLineOf (word ++ (codes " " ++ (digits ++ line_end))) line

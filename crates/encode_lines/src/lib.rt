@@ -1,8 +1,7 @@
-//! Makes octets of the lines that `tctool tc` and `tctool packets` write of them, and of those that hold
-//! octets.
+//! Encodes the lines that `tctool tc` and `tctool packets` write, and lines that hold octets.
 //!
-//! `encode_stream` reads lines and writes the octets of each. That these are the octets of which the tool
-//! writes those lines, `law_of_frame_lines`, `law_of_packet_lines` and `law_of_octets_in_lines` say.
+//! `encode_stream` reads lines and writes the octets of each. `law_of_frame_lines`, `law_of_packet_lines`
+//! and `law_of_octets_in_lines` state that the tool writes those lines for these octets.
 #![tactic(auto)]
 
 mod encoder;

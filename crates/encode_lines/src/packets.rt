@@ -1,4 +1,4 @@
-// The space packet that a line says.
+// The space packet that a line spells.
 
 ghost use Rattle.std.specs.Prelude.{◌≡◌, map, option_map, option_and_then};
 ghost use Rattle.space_packet.specs.Layout.{packet_view};
@@ -20,14 +20,14 @@ fn kind_in(word: &[u8]) -> Option<PacketKind>
     }
 }
 
-// Whether a word says how many packets are missing.
+// Returns whether a word states how many packets are missing.
 fn is_gap(word: &[u8]) -> bool
     ensures { result ≡ is_gap word.now }
 {
     is(word, "gap=-") || number_after(word, b"gap=", 16383).is_some()
 }
 
-// The packet that these words say, with the digits of its data in place of octets.
+// Returns the packet that these words spell, with the digits of its data instead of octets.
 fn packet_line<'a>(
     kind: &[u8],
     secondary: &[u8],
@@ -59,7 +59,8 @@ fn packet_line<'a>(
     })
 }
 
-/// The packet that the words of a line say, with the digits of its data in place of octets.
+/// Returns the packet that the words of a line spell, with the digits of its data instead of
+/// octets.
 pub fn packet_in<'a>(words: &[&'a [u8]]) -> Option<Packet<'a>>
     ensures { option_and_then packet_decoded (option_map packet_view result)
         ≡ packet_in (map (λ word. word.now) words.now) }

@@ -12,7 +12,7 @@ use space_packet::Packet;
 use std::alloc::{AllocError, Global};
 use tc_frame::{Body, Check, Segment, TcFrame};
 
-// Appends the octets of a frame, where its fields are in range, and says whether they are.
+// Appends the octets of a frame if its fields are in range, and returns whether they are.
 fn put_whole_frame(frame: &TcFrame, check: Check, text: &mut Vec<u8>) -> Result<bool, AllocError>
     ensures { Puts result text.old.items text.new.items (frame_octets check (frame_view frame.now)) }
 {
@@ -26,7 +26,7 @@ fn put_whole_frame(frame: &TcFrame, check: Check, text: &mut Vec<u8>) -> Result<
     }
 }
 
-// The digits that a body has in place of octets.
+// Returns the digits that a body has instead of octets.
 fn digits_of<'a>(body: &Body<'a>) -> &'a [u8]
     ensures { result.now ≡ digits_of (body_view body.now) }
 {
@@ -36,7 +36,7 @@ fn digits_of<'a>(body: &Body<'a>) -> &'a [u8]
     }
 }
 
-// A body with these octets in place of digits.
+// Returns a body with these octets instead of digits.
 fn with_octets<'a>(body: &Body, octets: &'a [u8]) -> Body<'a>
     ensures { body_view result ≡ with_octets (body_view body.now) octets.now }
 {
@@ -58,8 +58,8 @@ fn with_octets<'a>(body: &Body, octets: &'a [u8]) -> Body<'a>
     }
 }
 
-/// Appends the octets of a frame that has the digits of its data in place of octets, and says whether it
-/// has them.
+/// Appends the octets of a frame that has the digits of its data instead of octets, and returns whether
+/// there are any.
 pub fn put_frame(
     alloc: Global,
     frame: &TcFrame,
@@ -80,7 +80,7 @@ pub fn put_frame(
     put_whole_frame(&frame, check, text)
 }
 
-// Appends the octets of a packet, where its fields are in range, and says whether they are.
+// Appends the octets of a packet if its fields are in range, and returns whether they are.
 fn put_whole_packet(alloc: Global, packet: &Packet, text: &mut Vec<u8>) -> Result<bool, AllocError>
     ensures { Puts result text.old.items text.new.items (packet_octets (packet_view packet.now)) }
 {
@@ -94,8 +94,8 @@ fn put_whole_packet(alloc: Global, packet: &Packet, text: &mut Vec<u8>) -> Resul
     }
 }
 
-/// Appends the octets of a packet that has the digits of its data in place of octets, and says whether it
-/// has them.
+/// Appends the octets of a packet that has the digits of its data instead of octets, and returns whether
+/// there are any.
 pub fn put_packet(alloc: Global, packet: &Packet, text: &mut Vec<u8>) -> Result<bool, AllocError>
     ensures { Puts result text.old.items text.new.items
         (option_and_then packet_octets (packet_decoded (packet_view packet.now))) }

@@ -1,4 +1,4 @@
-//! One command packet from the ground to a spacecraft, and the report on it back.
+//! Sends one command packet from the ground to a spacecraft, and the CLCW that acknowledges it back.
 #![tactic(auto)]
 
 use anyhow::Result;

@@ -1,6 +1,7 @@
-//! A session over both nodes and a link that loses frames: packets are submitted as the queue has room, and each round
-//! is a tick of the clock. After an alert a report says which packets were accepted on board, though it was not heard:
-//! a new session submits the others alone, so that each packet is delivered once.
+//! Runs a session over both nodes and a link that loses frames. Packets are submitted when the queue has
+//! room, and each round is a tick of the clock. After an alert, a CLCW shows which packets were accepted on
+//! board without an acknowledgement that was heard. A new session submits only the others, so each packet is
+//! delivered once.
 #![tactic(auto)]
 
 use anyhow::{Context, Error, Result};
@@ -8,10 +9,10 @@ use cop1::{Alert, CopFault, Directive, FopMode};
 use nodes::{Config, Ground, Heard, HeardReport, Spacecraft};
 use tm_link::decode;
 
-// The number of packets, of 7 octets each, that are sent on MAP 4. Each is one segment.
+// The number of packets sent on MAP 4. Each has 7 octets and is one segment.
 const PACKETS: usize = 8;
 
-// Loses every fifth frame, up or down, and once ten in a row.
+// A link that loses every fifth frame, in either direction, and once ten in a row.
 #[derive(Clone, Copy)]
 struct Link {
     frames: u32,
@@ -26,7 +27,7 @@ impl Link {
 }
 
 fn main(rt: HostRuntime) -> Result<()> {
-    // A report is back within the round in which the frame was sent, so a timer of 3 ticks is long enough.
+    // The CLCW arrives in the round in which the frame was sent, so a timer of 3 ticks is long enough.
     let config = Config {
         window: 4,
         limit: 2,
@@ -48,7 +49,7 @@ fn main(rt: HostRuntime) -> Result<()> {
 
 fn play(rt: &HostRuntime, ground: &mut Ground, spacecraft: &mut Spacecraft) -> Result<()> {
     let mut link = Link { frames: 0 };
-    // How many packets were submitted, and of how many the ground knows that they were accepted.
+    // How many packets were submitted, and how many the ground knows to be accepted.
     let mut submitted = 0;
     let mut accepted = 0_usize;
     begin(ground, 0)?;
@@ -79,13 +80,15 @@ fn play(rt: &HostRuntime, ground: &mut Ground, spacecraft: &mut Spacecraft) -> R
     Err(Error::msg("not all were acknowledged"))
 }
 
-// Begins a session at the number that the spacecraft expects. Unlock clears its flags, and ends a lockout.
+// Begins a session at the number that the spacecraft expects. Unlock clears the spacecraft's flags and ends a
+// Lockout.
 fn begin(ground: &mut Ground, vr: u8) -> Result<Option<Alert>, CopFault> {
     ground.directive(Directive::SetVs(vr))?;
     ground.directive(Directive::InitUnlock)
 }
 
-// Submits packets from this one on, until the queue is full, and answers the first that was not submitted.
+// Submits packets from this one on until the queue is full, and returns the number of the first not
+// submitted.
 fn submit_from(ground: &mut Ground, first: usize) -> usize {
     for number in first..PACKETS {
         let packet = [0x10, 0x05, 0xc0, number as u8, 0x00, 0x00, number as u8];
@@ -96,7 +99,7 @@ fn submit_from(ground: &mut Ground, first: usize) -> usize {
     PACKETS
 }
 
-// Carries up what the ground sends, until it has nothing more to send now.
+// Carries the ground's frames up until it has no more to send now.
 fn carry_up(ground: &mut Ground, spacecraft: &mut Spacecraft, link: &mut Link) -> Result<()> {
     let mut up = [0; 1024];
     for _ in 0..256 {
@@ -110,7 +113,7 @@ fn carry_up(ground: &mut Ground, spacecraft: &mut Spacecraft, link: &mut Link) -
     Ok(())
 }
 
-// Writes the packets that are delivered.
+// Prints the packets that are delivered.
 fn deliver(rt: &HostRuntime, spacecraft: &mut Spacecraft) -> Result<()> {
     for _ in 0..64 {
         let Some((map, packet)) = spacecraft.take() else {
@@ -121,7 +124,7 @@ fn deliver(rt: &HostRuntime, spacecraft: &mut Spacecraft) -> Result<()> {
     Ok(())
 }
 
-// Carries a report down: its value, where it arrives, and why the sender has given up, where it has.
+// Carries a CLCW down. Returns its report value, if it arrives, and the alert, if it raises one.
 fn carry_down(
     ground: &mut Ground,
     spacecraft: &mut Spacecraft,
@@ -142,7 +145,7 @@ fn carry_down(
     }
 }
 
-// The value of the report in a telemetry frame: V(R), as it was on board.
+// Returns the report value of the CLCW in a telemetry frame, which is V(R) on board.
 fn value_of(octets: &[u8]) -> Option<u8> {
     let frame = decode(octets, octets.len()).ok()?;
     Some(frame.report().ok()?.value)

@@ -1,4 +1,4 @@
--- What is known of a place by the first octets from there on.
+-- What the first octets from a place on determine about it.
 use Rattle.std.proofs.Common.{◌≡◌, ◌≤◌, ◌<◌, ℕ, ◌+◌, ◌/◌, ◌%◌, Bool, true, false, not, cond, eqb, ltb, Result, Ok, Err}
 use Rattle.std.proofs.Common.{List, ◌++◌, length, take, drop, Option, Some, None, refl, sym, ap, ◌∙◌}
 use Rattle.std.proofs.Common.{append_assoc, arith, length-append, length-take}
@@ -18,7 +18,7 @@ use Rattle.frame_search.specs.Search.{names, if_good, good_frame, header_names}
 
 -- ---- the octets before a record's end
 
--- a record that is whole is the first, whatever follows
+-- a whole record is the first, whatever follows
 pub whole_first : (octets more : List ℕ) (n : ℕ) → total_at On (take 5 octets) ≡ Ok n → n ≤ length octets
     → (5 ≤ n) × (first_record 5 (total_at On) (octets ++ more) ≡ Some (Ok (take n octets)))
 whole_first octets more n e enough =
@@ -35,14 +35,14 @@ whole_first octets more n e enough =
           ∙ is_first 5 (total_at On) (take n octets) (drop n octets ++ more) is,
     )
 
--- a refused length is refused whatever follows
+-- a refused length stays refused, whatever follows
 pub refused_first : (octets more : List ℕ) (e : TcFault) → total_at On (take 5 octets) ≡ Err e → 5 ≤ length octets
     → first_record 5 (total_at On) (octets ++ more) ≡ Some (Err e)
 refused_first octets more e is enough =
     let long : ltb (length (octets ++ more)) 5 ≡ false = le-ltb _ _ (omega (arith, length-append octets more)) in
     rw (long, take-append-le 5 octets more enough, is) refl
 
--- fewer octets than the header has, or than it declares, are no record
+-- fewer octets than the header has, or than it declares, do not form a record
 pub short_first : (octets : List ℕ) → length octets < 5 → first_record 5 (total_at On) octets ≡ None
 short_first octets lt = rw (lt-ltb _ _ lt) refl
 
@@ -58,7 +58,7 @@ total_most head n h =
     let is : total ≡ n = ok_is {F = TcFault} total n enough.1 in
     omega (arith, is)
 
--- ---- what the header says
+-- ---- what the header names
 
 -- a frame has the numbers of its header
 header_of : (b : List ℕ) (f : FrameView) → frame_at On b ≡ Ok f
@@ -83,7 +83,7 @@ named_by scid vcid b (Ok f) e h =
     rw (has.0, has.1) h
 named_by scid vcid b (Err x) e h = absurd cc
 
--- octets have the header of what they begin with
+-- octets have the header of the record that they begin with
 header_in_front : (scid vcid : ℕ) (r more : List ℕ) → 5 ≤ length r
     → header_names scid vcid (r ++ more) ≡ header_names scid vcid r
 header_in_front scid vcid r more long =
@@ -95,14 +95,14 @@ header_in_front scid vcid r more long =
 not_both : (b : Bool) → b ≡ true → b ≡ false → ⊥
 not_both b t f = cc
 
--- a record whose header names another channel is no good frame
+-- a record whose header names another channel is not a good frame
 unnamed_record : (scid vcid : ℕ) (r : List ℕ) (b : Bool) → names scid vcid (frame_at On r) ≡ b
     → header_names scid vcid r ≡ false → if_good scid vcid (Some (Ok r)) ≡ None
 unnamed_record scid vcid r true is other =
     absurd (not_both _ (named_by scid vcid r (frame_at On r) refl is) other)
 unnamed_record scid vcid r false is other = rw is refl
 
--- where the header names another channel there is no good frame
+-- if the header names another channel there is no good frame
 unnamed : (scid vcid : ℕ) (w : List ℕ) (o : Option (Result (List ℕ) TcFault)) → first_record 5 (total_at On) w ≡ o
     → header_names scid vcid w ≡ false → if_good scid vcid o ≡ None
 unnamed scid vcid w None e h = refl
@@ -135,7 +135,7 @@ bad_first scid vcid octets more n e enough bad =
     let is = whole_first octets more n e enough in
     ap (if_good scid vcid) is.1 ∙ rw bad refl
 
--- a good frame stands in front of the octets, and has its header
+-- a good frame is in front of the octets, and has its header
 abbrev whole : List ℕ → Option (Result (List ℕ) TcFault)
 whole r = Some (Ok r)
 

@@ -10,7 +10,7 @@ use Rattle.frame_search.specs.Parts.{parts_of}
 use Rattle.frame_search.proofs.Places.{good_is}
 
 module _ (scid vcid : ℕ) where
-  -- the octets of a frame before are passed over
+  -- the octets of an earlier frame are passed over
   pub passes : (n k : ℕ) (octets : List ℕ)
       → parts_after scid vcid n k octets ≡ parts_after scid vcid n 0 (drop k octets)
   passes n zero [] = refl
@@ -18,7 +18,7 @@ module _ (scid vcid : ℕ) where
   passes n zero (octet ∷ octets) = refl
   passes n (suc k) (octet ∷ octets) = passes n k octets
 
-  -- where a good frame begins
+  -- if a good frame begins here
   pub parts_frame : (n : ℕ) (octets frame : List ℕ) → good_frame scid vcid octets ≡ Some frame
       → parts_after scid vcid n 0 octets
       ≡ skipped n ++ Frame frame ∷ parts_after scid vcid 0 0 (drop (length frame) octets)
@@ -38,12 +38,12 @@ module _ (scid vcid : ℕ) where
       dropped (suc k) some =
           let one_less : suc k - 1 ≡ k = omega arith in ap (λ (j : ℕ). drop j octets) one_less
 
-  -- where none does
+  -- if no good frame begins here
   pub parts_none : (n octet : ℕ) (octets : List ℕ) → good_frame scid vcid (octet ∷ octets) ≡ None
       → parts_after scid vcid n 0 (octet ∷ octets) ≡ parts_after scid vcid (suc n) 0 octets
   parts_none n octet octets h = rw h refl
 
--- ---- the parts are what they are to be
+-- ---- the parts meet their definition
 
 drop_none : (w : List ℕ) → drop 0 w ≡ w
 drop_none [] = refl
@@ -56,7 +56,7 @@ drop_next zero (x ∷ xs) octet octets e =
 drop_next (suc n) [] octet octets e = absurd cc
 drop_next (suc n) (x ∷ xs) octet octets e = drop_next n xs octet octets e
 
--- what holds below a number and at it
+-- what holds below a number and at the number holds up to it
 up_to : (P : ℕ → Type 0) (n : ℕ) → ((i : ℕ) → i < n → P i) → P n → (i : ℕ) (b : Bool) → ltb i n ≡ b → i < suc n → P i
 up_to P n below at i true lt le = below i (ltb-true i n lt)
 up_to P n below at i false ge le =
@@ -64,7 +64,8 @@ up_to P n below at i false ge le =
     let is : n ≡ i = omega (arith, more, le) in subst P is at
 
 module _ (scid vcid : ℕ) where
-  -- What is known where this many octets were skipped: those that follow, and that no good frame began before.
+  -- What is known if this many octets were skipped: the octets that follow, and that no good frame began
+  -- before.
   pub record HasSkipped (n : ℕ) (w octets : List ℕ) : Type 0 where
     pub left : drop n w ≡ octets
     pub within : n ≤ length w

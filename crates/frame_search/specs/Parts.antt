@@ -1,4 +1,4 @@
--- A stream as the good frames of a channel and what is skipped between them.
+-- A stream as the good frames of a channel and the octets skipped between them.
 use Rattle.std.specs.Prelude.{◌≡◌, ◌<◌, ◌≤◌, ◌-◌, ◌⊎◌, ℕ, zero, suc}
 use Rattle.std.specs.Prelude.{List, [], ◌∷◌, ◌++◌, length, drop, Option, Some, None}
 use Rattle.frame_search.specs.Search.{good_frame}
@@ -6,7 +6,7 @@ use Rattle.frame_search.specs.Search.{good_frame}
 pub data Part : Type 0 where
   -- a good frame
   Frame : List ℕ → Part
-  -- this many octets at none of which one begins
+  -- this many octets; no good frame begins at any of them
   Skipped : ℕ → Part
 
 -- ---- what the parts of a stream are
@@ -17,15 +17,15 @@ module _ (scid vcid : ℕ) where
   IsReached octets =
       (octets ≡ []) ⊎ ((frame : List ℕ) × (good_frame scid vcid octets ≡ Some frame))
 
-  -- the least place from here on at which a good frame begins is after this many octets, or there
-  -- is none, and these are all
+  -- the first place from here on at which a good frame begins is after this many octets; or there
+  -- is no such place, and these are all octets
   pub record IsLeast (octets : List ℕ) (n : ℕ) : Type 0 where
     pub within : n ≤ length octets
     pub none_before : (i : ℕ) → i < n → good_frame scid vcid (drop i octets) ≡ None
     pub reached : IsReached (drop n octets)
 
-  -- The parts of octets: a good frame where one begins, and else all octets up to the least place
-  -- at which one does.
+  -- The parts of octets: a good frame if one begins there, and otherwise all octets up to the first
+  -- place at which one begins.
   abbrev pub AreParts : List ℕ → List Part → Type 0
   AreParts octets [] = octets ≡ []
   AreParts octets (Frame frame ∷ parts) =
@@ -35,7 +35,7 @@ module _ (scid vcid : ℕ) where
 
 -- ---- the parts of a stream
 
--- what is skipped, where something is
+-- the skipped octets, if there are any
 abbrev pub skipped : ℕ → List Part
 skipped zero = []
 skipped (suc n) = Skipped (suc n) ∷ []
@@ -44,7 +44,7 @@ abbrev pub by_frame : {A : Type 0} → Option (List ℕ) → A → (List ℕ →
 by_frame None none some = none
 by_frame (Some frame) none some = some frame
 
--- those of octets before which this many were skipped, where the first k are of a frame before
+-- the parts of octets after this many skipped octets, if the first k belong to an earlier frame
 abbrev pub parts_after : ℕ → ℕ → ℕ → ℕ → List ℕ → List Part
 parts_after scid vcid n k [] = skipped n
 parts_after scid vcid n (suc k) (octet ∷ octets) = parts_after scid vcid n k octets

@@ -1,5 +1,5 @@
--- Where a good frame of a channel begins: a whole frame with a right FECF that names the spacecraft
--- and the virtual channel.
+-- Where a good frame of a channel begins. A good frame is a whole frame with a correct FECF that
+-- names the spacecraft and the virtual channel.
 use Rattle.std.specs.Prelude.{◌≡◌, ◌<◌, ◌≤◌, ◌/◌, ◌%◌, ◌==◌, ◌&&◌, ℕ}
 use Rattle.std.specs.Prelude.{Bool, false, List, ◌++◌, length}
 use Rattle.std.specs.Prelude.{take, drop, if◌then◌else◌, Option, Some, None, Result, Ok, Err}
@@ -18,7 +18,7 @@ abbrev pub names : ℕ → ℕ → Result FrameView TcFault → Bool
 names scid vcid (Ok f) = (f.scid == scid) && (f.vcid == vcid)
 names scid vcid (Err e) = false
 
--- a record, where it is a good frame
+-- a record, if it is a good frame
 abbrev pub if_good : ℕ → ℕ → Option (Result (List ℕ) TcFault) → Option (List ℕ)
 if_good scid vcid None = None
 if_good scid vcid (Some (Err e)) = None
@@ -26,7 +26,7 @@ if_good scid vcid (Some (Ok frame)) =
     if names scid vcid (frame_at On frame) then Some frame else None
 
 -- the good frame that octets begin with: as many octets as the header declares (CCSDS 232.0-B-4,
--- 4.1.2.7), where they are all there and are one
+-- 4.1.2.7), if they are all there and form a good frame
 abbrev pub good_frame : ℕ → ℕ → List ℕ → Option (List ℕ)
 good_frame scid vcid octets = if_good scid vcid (first_record 5 (total_at On) octets)
 
@@ -36,7 +36,7 @@ header_names scid vcid octets =
     (number_of (take 2 octets) % 1024 == scid)
     && (number_of (take 2 (drop 2 octets)) / 1024 == vcid)
 
--- what is said of a place is so
+-- what is stated of a place is true
 abbrev pub IsPlace : ℕ → ℕ → List ℕ → Place → Type 0
 IsPlace scid vcid octets (Frame n) =
     (n ≤ length octets) × (5 ≤ n)

@@ -3,8 +3,8 @@
 ghost use Rattle.std.specs.Prelude.{ℕ, List};
 ghost use Rattle.frame_search.specs.Parts.{parts_of, AreParts};
 
-/// The parts of any octets are, in turn, the good frames of the channel, each at the least place from where
-/// the part before it ends at which one begins, and between them what is skipped.
+/// The parts of any octets are, in order, the good frames of the channel and the octets skipped between them.
+/// Each frame is at the first place, from the end of the part before it, at which a good frame begins.
 pub fn law_of_parts()
     ensures { (scid vcid : ℕ) (octets : List ℕ) → AreParts scid vcid octets (parts_of scid vcid octets) }
 {}

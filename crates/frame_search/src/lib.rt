@@ -1,5 +1,5 @@
-//! The good frames of one virtual channel in octets of which some are damaged, or missing, or of other
-//! channels: where a frame with a right FECF begins, and what is skipped before it.
+//! Finds the good frames of one virtual channel in octets that may be damaged, missing or from other
+//! channels: where a frame with a correct FECF begins, and what is skipped before it.
 #![tactic(auto)]
 
 mod laws;

@@ -9,14 +9,14 @@ ghost use Rattle.frame_search.specs.Search.{header_names, names, IsPlace};
 use octets::{Wire, first_two};
 use tc_frame::{Check, Checked, decode};
 
-/// What stands at a place of a stream.
+/// What is at a place in a stream.
 #[derive(Clone, Copy, Debug, Drop, PartialEq, Eq)]
 pub enum Place {
     /// A good frame of the channel, of this many octets.
     Frame(usize),
     /// No good frame of the channel, whatever octets follow.
     Nothing,
-    /// Too few octets to know, fewer than the longest frame has.
+    /// Too few octets to decide, fewer than the longest frame has.
     Open,
 }
 
@@ -29,7 +29,7 @@ fn has_header(octets: &[u8], scid: u16, vcid: u8) -> bool
     first_two(octets) % 1024 == scid && first_two(&octets[2..]) / 1024 == u16::from(vcid)
 }
 
-// Whether these octets are a frame of this channel with a right FECF.
+// Whether these octets are a frame of this channel with a correct FECF.
 #[inline(always)]
 fn is_good(octets: &[u8], scid: u16, vcid: u8) -> bool
     ensures { result ≡ names scid vcid (frame_at On octets.now) }
@@ -40,8 +40,8 @@ fn is_good(octets: &[u8], scid: u16, vcid: u8) -> bool
     }
 }
 
-/// Whether a good frame of this channel begins with the first of the octets. The FECF is computed only where
-/// the header names the channel.
+/// Determines whether a good frame of this channel begins with the first of the octets. The FECF is computed
+/// only if the header names the channel.
 /// Cost: the octets of a frame.
 pub fn place_at(octets: &[u8], scid: u16, vcid: u8) -> Place
     ensures { IsPlace scid vcid octets.now result }

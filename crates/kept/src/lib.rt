@@ -40,7 +40,7 @@ impl<T: Drop, A: Allocator> Kept<T, A> {
 }
 
 impl<T> Kept<T, Global> {
-    /// No box.
+    /// Creates a value that holds no box.
     pub fn none(alloc: Global) -> Kept<T, Global>
         ensures { result.value ≡ None }
     {
@@ -50,7 +50,7 @@ impl<T> Kept<T, Global> {
         }
     }
 
-    // The same, where there is a box.
+    // Returns the same value, if it holds a box.
     fn present(self) -> Option<Kept<T, Global>>
         ensures { MatchOption result (self.value ≡ None)
             (λ k. (k.value ≡ self.value) × (is_some k.value ≡ true)) }
@@ -65,7 +65,7 @@ impl<T> Kept<T, Global> {
 }
 
 impl<T> Kept<T, Global> {
-    /// Lets go of what holds no box.
+    /// Discards a value that holds no box.
     pub fn end(self)
         requires { self.value ≡ None }
     {
@@ -74,7 +74,7 @@ impl<T> Kept<T, Global> {
 }
 
 impl<T: Drop> Kept<T, Global> {
-    /// The box, where there is one.
+    /// Returns the box, if there is one.
     pub fn into_option(self) -> Option<Box<T>>
         ensures { option_map (λ b. b.value) result ≡ self.value }
     {
@@ -84,7 +84,7 @@ impl<T: Drop> Kept<T, Global> {
         }
     }
 
-    /// Takes the box out, and leaves none.
+    /// Takes the box out, if there is one, and leaves none.
     pub fn take(&mut self, alloc: Global) -> Option<Box<T>>
         ensures taken { option_map (λ b. b.value) result ≡ self.old.value }
         ensures none { self.new.value ≡ None }
@@ -92,7 +92,7 @@ impl<T: Drop> Kept<T, Global> {
         mem::replace(self, Kept::none(alloc)).into_option()
     }
 
-    /// Puts a box in; one that was there is freed.
+    /// Puts a box in, and frees the one that was there, if any.
     pub fn put(&mut self, value: Box<T>)
         ensures { self.new.value ≡ Some value.value }
     {

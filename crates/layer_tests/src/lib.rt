@@ -1,7 +1,7 @@
-//! Tests of the upper layers by their public calls alone: the two nodes (`node_calls`, of `nodes`), the
+//! Tests of the upper layers, only by their public calls: the two nodes (`node_calls`, of `nodes`), the
 //! simulated link (`link`, of `tc_link`), its scripts (`scripts`, of `script`), and the devices and the
-//! lines of streams (`devices`, of `streams` and `listings`). They are a crate of their own, so that the
-//! layers aren't proved once more with them. What lines show stands in rows/ at the top.
+//! lines of streams (`devices`, of `streams` and `listings`). The tests are a separate crate, so that the
+//! layers are not proved again with them. The rows in rows/ test what the lines show.
 #![tactic(auto)]
 
 #[cfg(test)]

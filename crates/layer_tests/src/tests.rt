@@ -1,4 +1,4 @@
-// The tests by what they are of, and what several of them use.
+// The tests by subject, and the helpers that several of them share.
 
 mod common;
 mod devices;

@@ -1,4 +1,4 @@
--- Words may be counted in any order, and so the phrases of a text may be put in the table later.
+-- Words may be counted in any order, so the phrases of a text may be put in the table later.
 use Rattle.std.proofs.Common.{◌≡◌, ◌∙◌, ◌+◌, ◌-◌, ◌<◌, ◌∷◌, ◌++◌, List, [], ℕ, Bool, true, false, refl, ap, sym}
 use Rattle.std.proofs.Common.{Ordering, append_assoc, arith, drop, get_or, length, map, suc, take, zero}
 use Rattle.std.specs.Prelude.{Option, Some, None, Vec, replicate, ◌&&◌, if◌then◌else◌}
@@ -31,7 +31,7 @@ turned a b o is = nat_list_cmp_total.antisymm b a ∙ ap ordering_reverse is
 equal : (a b : List ℕ) → cmp a b ≡ Equal → a ≡ b
 equal a b is = slice_cmp-IsAntisymmetric nat_cmp-IsAntisymmetric a b is
 
--- two words in a table that has neither, before a row
+-- two new words that would each be the first row of the table
 pair_by : (rows : Rows) (a b : List ℕ) → with_word rows a ≡ (a, 1) ∷ rows → with_word rows b ≡ (b, 1) ∷ rows
     → (o : Ordering) → cmp b a ≡ o → with_word ((a, 1) ∷ rows) b ≡ with_word ((b, 1) ∷ rows) a
 pair_by rows a b first second Less is =
@@ -43,7 +43,7 @@ pair_by rows a b first second Greater is =
     let other : cmp a b ≡ Less = turned b a Greater is in
     rw (is, other) (ap (λ (x : Rows). (a, 1) ∷ x) second)
 
--- a word that stands before the first row, and another
+-- a word that comes before the first row, and another word
 first_by : (row : List ℕ × ℕ) (rows : Rows) (a b : List ℕ) → cmp a row.0 ≡ Less → (o : Ordering) → cmp b row.0 ≡ o
     → with_word (with_word (row ∷ rows) a) b ≡ with_word (with_word (row ∷ rows) b) a
 first_by row rows a b less Less is =
@@ -81,7 +81,7 @@ swap : (rows : Rows) (a b : List ℕ) → with_word (with_word rows a) b ≡ wit
 swap [] a b = pair_by [] a b refl refl (cmp b a) refl
 swap (row ∷ rows) a b = swap_by row rows a b (swap rows a b) (cmp a row.0) refl (cmp b row.0) refl
 
--- a word so many times, and another
+-- a word counted n times, and another word
 words_swap : (rows : Rows) (w : List ℕ) (n : ℕ) (a : List ℕ)
     → with_word (with_words rows w n) a ≡ with_words (with_word rows a) w n
 words_swap rows w zero a = refl
@@ -94,7 +94,7 @@ words_twice rows w n v zero = refl
 words_twice rows w n v (suc m) =
     ap (λ (x : Rows). with_word x v) (words_twice rows w n v m) ∙ words_swap (with_words rows v m) w n v
 
--- a word so many times, or not at all
+-- a word counted n times if p is true, or not at all
 abbrev where_so : Bool → Rows → List ℕ → ℕ → Rows
 where_so p rows w n = if p then with_words rows w n else rows
 
@@ -119,7 +119,7 @@ times_more : (rows : Rows) (w : List ℕ) (n m : ℕ) → m ≡ n + 1
     → with_ended_times rows w m ≡ with_ended (with_ended_times rows w n) w
 times_more rows w n m so = more_by (is_counted w) rows (shown w) n m so
 
--- a word, and words so many times
+-- a word counted m times, and words counted n times each
 each_word : (words : List (List ℕ)) (rows : Rows) (w : List ℕ) (m n : ℕ)
     → with_each (with_ended_times rows w m) words n ≡ with_ended_times (with_each rows words n) w m
 each_word [] rows w m n = refl
@@ -146,7 +146,7 @@ none_by : (p : Bool) (rows : Rows) (w : List ℕ) → where_so p rows w 0 ≡ ro
 none_by true rows w = refl
 none_by false rows w = refl
 
--- what has come no time changes nothing
+-- a word that has come no times changes nothing
 pub no_time : (rows : Rows) (w : List ℕ) (n : ℕ) → n ≡ 0 → rows ≡ with_ended_times rows w n
 no_time rows w n none =
     sym (ap (λ (k : ℕ). with_ended_times rows w k) none ∙ none_by (is_counted w) rows (shown w))
@@ -156,7 +156,7 @@ no_times [] rows n none = refl
 no_times (w ∷ words) rows n none =
     no_times words rows n none ∙ ap (λ (x : Rows). with_each x words n) (no_time rows w n none)
 
--- words may be put in before the phrases
+-- words may be put in the table before the phrases
 pub put_before : (phrases rows : Rows) (words : List (List ℕ)) (n : ℕ)
     → of_phrases (with_each rows words n) phrases ≡ with_each (of_phrases rows phrases) words n
 put_before [] rows words n = refl
@@ -164,7 +164,7 @@ put_before (p ∷ phrases) rows words n =
     ap (λ (x : Rows). of_phrases x phrases) (each_twice (words_in [] p.0) words rows n p.1)
     ∙ put_before phrases (with_each rows (words_in [] p.0) p.1) words n
 
--- a table of phrases, with a phrase more
+-- a table of phrases with one phrase more
 with_one_by : (p : List ℕ × ℕ) (phrases rows : Rows) (w : List ℕ)
     → ((rows : Rows) → of_phrases rows (with_word phrases w) ≡ with_each (of_phrases rows phrases) (words_in [] w) 1)
     → (o : Ordering) → cmp w p.0 ≡ o
@@ -198,7 +198,7 @@ its_words p = words_in [] (phrase_words p)
 abbrev rows_of : List Phrase → Rows
 rows_of phrases = map (λ phrase. (phrase_words phrase, phrase.times)) phrases
 
--- the phrases, of which the one at a place has come once more
+-- the phrases after the one at a place has come once more
 pub raised : (phrases : List Phrase) (place : ℕ) (rows : Rows) (d old new : Phrase) → place < length phrases
     → old ≡ get_or phrases place d → phrase_words new ≡ phrase_words old → new.times ≡ old.times + 1
     → with_phrases rows (set phrases place new) ≡ with_each (with_phrases rows phrases) (its_words new) 1
@@ -213,7 +213,7 @@ raised (p ∷ phrases) zero rows d old new there is same more =
 raised (p ∷ phrases) (suc place) rows d old new there is same more =
     raised phrases place (with_each rows (its_words p) p.times) d old new (omega arith) is same more
 
--- the one at a place is put in the table, and another, which has come once, has its place
+-- the phrase at a place is put in the table, and a phrase that has come once takes its place
 pub replaced : (phrases : List Phrase) (place : ℕ) (rows : Rows) (d old new : Phrase) → place < length phrases
     → old ≡ get_or phrases place d → new.times ≡ 1
     → with_phrases (with_each rows (its_words old) old.times) (set phrases place new)
@@ -234,7 +234,7 @@ pub phrases_before : (phrases : List Phrase) (rows : Rows) (words : List (List �
     → with_phrases (with_each rows words n) phrases ≡ with_each (with_phrases rows phrases) words n
 phrases_before phrases rows words n = put_before (rows_of phrases) rows words n
 
--- words may be put in before the phrases of a table and these
+-- words may be put in before the phrases of a table and of a list
 pub counted_before : {A : Type 0} (entries : List (Vec ℕ A × ℕ)) (phrases : List Phrase) (rows : Rows)
     (words : List (List ℕ)) (n : ℕ)
     → counted (with_each rows words n) entries phrases ≡ with_each (counted rows entries phrases) words n
@@ -244,7 +244,7 @@ counted_before entries phrases rows words n =
 
 -- ---- the words of a text
 
--- octets make of a tally what their words make of its table, and the word that has begun
+-- octets add their words to the table of a tally, and leave the word that has begun
 splits_by : (parts : Bool) (rows : Rows) (w os : List ℕ) (o : ℕ)
     → ((rows : Rows) (w : List ℕ)
     → fold with_octet (st rows w) os ≡ st (with_each rows (words_in w os) 1) (begun_in w os))
@@ -269,7 +269,7 @@ goes_on_after rows text n whole =
     ∙ ap (λ (x : Tallied). fold with_octet x (drop n text)) (splits rows [] (take n text))
     ∙ ap (λ (w : List ℕ). fold with_octet (st (with_each rows (words_in [] (take n text)) 1) w) (drop n text)) whole
 
--- a word is whole with what ends it
+-- a word is whole together with the octet that ends it
 pub ends_whole : (w text : List ℕ) (n : ℕ) → word_end w text ≡ Some n → begun_in w (take (suc n) text) ≡ []
 ends_whole w text n is =
     ap (λ (t : Tallied). t.word) (sym (splits [] w (take (suc n) text)) ∙ reads_word [] w text n is)
@@ -291,7 +291,7 @@ pub begun_on : (w text others : List ℕ) → begun_in w (text ++ others) ≡ be
 begun_on w [] others = refl
 begun_on w (o ∷ os) others = begun_by (parts_words w o) w os others o (λ w. begun_on w os others)
 
--- whole words, and a word behind them
+-- whole words, and a word after them
 pub whole_on : (text : List ℕ) (at n : ℕ) → begun_in [] (take at text) ≡ [] → word_end [] (drop at text) ≡ Some n
     → begun_in [] (take (at + (n + 1)) text) ≡ []
 whole_on text at n whole is =
@@ -300,7 +300,7 @@ whole_on text at n whole is =
     ∙ ap (λ (w : List ℕ). begun_in w (take (n + 1) (drop at text))) whole
     ∙ first_whole (drop at text) n is
 
--- the first word of a text, and those behind it
+-- the first word of a text, and the words after it
 first_by_parts : (parts : Bool) (w os : List ℕ) (o n : ℕ)
     → ((w : List ℕ) (n : ℕ) → word_end w os ≡ Some n
     → words_in w os ≡ (w ++ take n os) ∷ words_in [] (drop (suc n) os))
@@ -341,7 +341,7 @@ pub no_word : (w text : List ℕ) → word_end w text ≡ None → words_in w te
 no_word w [] is = refl
 no_word w (o ∷ os) is = no_word_by (parts_words w o) w os o (λ w. no_word w os) is
 
--- the words behind the first one, in the table with that one
+-- the words after the first one, put in the table that has the first one
 pub words_on : (rows with_it : Rows) (text : List ℕ) (n times : ℕ) → word_end [] text ≡ Some n
     → with_it ≡ with_ended_times rows (take n text) times
     → with_each with_it (words_in [] (take (length text - (n + 1)) (drop (n + 1) text))) times

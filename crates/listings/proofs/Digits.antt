@@ -83,12 +83,13 @@ at_most_nineteen t small = length-decimal-le 19 t (omega arith) (omega arith) (o
 pub at_most_five : (n : ℕ) → n < 2 ^ 16 → length (decimal n) ≤ 5
 at_most_five n small = length-decimal-le 5 n (omega arith) (omega arith) (omega arith)
 
--- ---- octets that are put over others
+-- ---- octets that are written over others
 
 pub take_past : (i n : ℕ) (xs ys : List ℕ) → length xs ≡ i → take (i + n) (xs ++ ys) ≡ xs ++ take n ys
 take_past i n xs ys long = rw (← long) (take-append-add xs ys n)
 
--- the first `half` of these octets, and the last `half` over them, are all
+-- the first `half` octets of a word, and its last `last` octets written after them, are the whole
+-- word
 pub ends_put : (a b c word : List ℕ) (at half last : ℕ) → at ≤ length a → half ≤ length word → last ≤ half
     → last + half ≡ length word
     → take (at + half) b ≡ take at a ++ take half word
@@ -122,7 +123,7 @@ same-is (x ∷ xs) (y ∷ ys) e =
     ap (λ k. k ∷ xs) (eqb-true x y both.0) ∙ ap (λ l. y ∷ l) (same-is xs ys both.1)
 same-is _ _ e = absurd cc
 
--- the digits of a number of at most three
+-- the digits of a number that has at most three
 abbrev places : ℕ → List ℕ
 places i =
     if nat_lt i 10 then (48 + i) ∷ []
@@ -139,12 +140,12 @@ places-are i lt =
       ])
     ]
 
--- these four are three places, and how many of them are the digits of a number
+-- these four octets are three places, and how many of the places hold the digits of a number
 abbrev is_entry : List ℕ → ℕ → Bool
 is_entry (a ∷ b ∷ c ∷ n ∷ xs) i = same (take n (a ∷ b ∷ c ∷ [])) (places i) && nat_lt n 4
 is_entry _ i = false
 
--- so are the first n fours, of the numbers from i on
+-- the same holds of the first n entries, for the numbers from i on
 abbrev entries_hold : ℕ → ℕ → List ℕ → Bool
 entries_hold zero i xs = true
 entries_hold (suc n) i xs = is_entry xs i && entries_hold n (i + 1) (drop 4 xs)
@@ -188,7 +189,7 @@ octet_entry j k same lt =
     subst (λ l. IsEntry l k) (sym all) (subst (IsEntry (drop (4 * j) OCTETS)) same
     (is_entry-is (drop (4 * j) OCTETS) j (omega arith) holds))
 
--- of N octets that are put, the first n
+-- the first n of N octets that are put
 pub front_put : (before after octets : List ℕ) (at n N : ℕ) → at ≤ length before → n ≤ N
     → take (at + N) after ≡ take at before ++ take N octets → take (at + n) after ≡ take at before ++ take n octets
 front_put before after octets at n N within few put =
@@ -196,7 +197,7 @@ front_put before after octets at n N within few put =
     ∙ take_past at n (take at before) (take N octets) (length-take-le at before within)
     ∙ ap (λ l. take at before ++ l) (take-take n N octets few)
 
--- of three places that are put, as many as are digits
+-- the digits among three places that are put
 pub digits_put : (before after entry : List ℕ) (at k : ℕ) → at ≤ length before
     → take (at + 4) after ≡ take at before ++ take 4 entry → get_or entry 3 0 ≤ 3
     → take (get_or entry 3 0) entry ≡ decimal k → take (at + get_or entry 3 0) after ≡ take at before ++ decimal k
@@ -294,7 +295,7 @@ first_digits v = map (λ x. slice_index upper_digits (x / 16)) v
 abbrev second_digits : List ℕ → List ℕ
 second_digits v = map (λ x. slice_index upper_digits (x % 16)) v
 
--- sixteen lanes and sixteen more in turn, as `shuffle` of `digits_of_sixteen` has them
+-- sixteen lanes and sixteen more in turn, as the `shuffle` of `digits_of_sixteen` orders them
 abbrev pub in_turn : List ℕ → List ℕ
 in_turn lanes =
     map (λ k. get_or lanes k 0)
@@ -344,7 +345,7 @@ pub none_yet : (t input digits : List ℕ) → take (2 * (16 * 0)) digits ≡ en
 unfolding encode_with
 none_yet t input digits = refl
 
--- sixteen octets more are written
+-- sixteen more octets are written
 pub sixteen_more : (t input before after : List ℕ) (i : ℕ)
     → take (2 * (i + 16)) after ≡ take (2 * i) before ++ encode_with t (take 16 (drop i input))
     → take (2 * i) before ≡ encode_with t (take i input)
@@ -360,7 +361,7 @@ fewer_sixteen t input digits i j le inv =
     sym (take-take (2 * j) (2 * i) digits (omega arith)) ∙ ap (take (2 * j)) inv
     ∙ encode_take t j (take i input) ∙ ap (encode_with t) (take-take j i input le)
 
--- the last sixteen octets are written after those before them, and maybe after some of them
+-- the last sixteen octets are written, some of them perhaps for the second time
 pub all_sixteen : (t input before after : List ℕ) (i j : ℕ)
     → j ≤ i → j + 16 ≡ length input → length after ≡ 2 * length input
     → take (2 * (j + 16)) after ≡ take (2 * j) before ++ encode_with t (take 16 (drop j input))

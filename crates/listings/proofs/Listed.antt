@@ -1,4 +1,4 @@
--- How a listing goes on by a record and by a piece of a stream, and how it ends.
+-- How a listing continues with a record and with a piece of a stream, and how it ends.
 use Rattle.std.proofs.Common.{◌≡◌, ℕ, ◌+◌, ◌≤◌, Bool, true, false, List, [], ◌∷◌, ◌++◌, length, drop, Result, Ok, Err}
 use Rattle.std.proofs.Common.{refl, sym, ap, ◌∙◌, append_assoc, arith, cond, ltb, take, subst}
 use Rattle.std.specs.Prelude.{◌&&◌, Option, Some, None}
@@ -15,9 +15,9 @@ use Rattle.listings.specs.Listing.{is_empty, listing_of, HasListed}
 use Rattle.streams.specs.Pieces.{GoesOn}
 use Rattle.listings.specs.declared.stream.Summary.{Summary}
 
--- How a listing goes on by a record, and how it ends.
+-- How a listing continues with a record, and how it ends.
 
--- what was listed is the same where each field is
+-- two summaries are the same if each field is
 pub same_summary : (a b : Summary) → a.records ≡ b.records → a.octets ≡ b.octets → a.all_good ≡ b.all_good → a ≡ b
 same_summary a b records octets good =
     ap (λ (n : ℕ). record a { records = n }) records
@@ -35,7 +35,7 @@ module _ {S F : Type 0} (lines : Lines S F) (layout : Layout F) (heads : HasHead
     octets = drop (length r) st.octets;
   }
 
-  -- how a listing stands, by its parts
+  -- the state of a listing, from its parts
   abbrev stands : List ℕ → S → ℕ → Bool → List ℕ → Standing S
   stands text kept count all_good octets =
       record { text = text; kept = kept; count = count; all_good = all_good; octets = octets }
@@ -56,7 +56,7 @@ module _ {S F : Type 0} (lines : Lines S F) (layout : Layout F) (heads : HasHead
       (sym (and_assoc st.all_good (lines.is_good r) (list_all lines.is_good rs)))
       refl
 
-  -- where there is a record, the listing goes on after it
+  -- if there is a record, the listing continues after it
   pub listed-record : (st : Standing S) (r : List ℕ) → first_by layout st.octets ≡ Some (Ok r)
       → listed lines layout (one_more st r) ≡ listed lines layout st
   listed-record st r first =
@@ -66,7 +66,7 @@ module _ {S F : Type 0} (lines : Lines S F) (layout : Layout F) (heads : HasHead
       ∙ ap (behind lines st (r ∷ records_by layout (drop (length r) st.octets))) split.1
       ∙ behind-cons st r (records_by layout (drop (length r) st.octets)) (rest_by layout (drop (length r) st.octets)))
 
-  -- how a listing stands after the record that is first
+  -- the state of a listing after the first record
   pub goes_on : (st next : Standing S) (r : List ℕ) → first_by layout st.octets ≡ Some (Ok r)
       → next.text ≡ st.text ++ lines.line_of st.kept (st.count + 1) r → next.kept ≡ lines.after st.kept r
       → next.count ≡ st.count + 1 → next.all_good ≡ st.all_good && lines.is_good r
@@ -86,7 +86,7 @@ module _ {S F : Type 0} (lines : Lines S F) (layout : Layout F) (heads : HasHead
       let is = record_is layout.head layout.extent heads.some_head heads.has_head octets r first in
       omega (arith, length-drop (length r) octets, is.0.has_head, ap length is.1, length-append {A = ℕ})
 
-  -- where there is none, it is as it was
+  -- if there is no record, the listing stays as it was
   pub listed-none : (st : Standing S) → IsNoRecord layout.head layout.extent (first_by layout st.octets)
       → listed lines layout st ≡ st
   listed-none st none =
@@ -110,7 +110,8 @@ module _ {S F : Type 0} (lines : Lines S F) (layout : Layout F) (heads : HasHead
       behind-cons st r (rs ++ rs') rest' ∙ behind-append (one_more st r) rs rs' rest rest'
       ∙ ap (λ (x : Standing S). behind lines x rs' rest') (sym (behind-cons st r rs rest))
 
-  -- however the octets come, the listing of all is that of the first and then of what is left with those that follow
+  -- however the octets arrive, listing all of them is listing the first ones, and then what is left with those that
+  -- follow
   pub listed-fed : (st : Standing S) (more : List ℕ)
       → listed lines layout (fed (listed lines layout st) more) ≡ listed lines layout (fed st more)
   listed-fed st more =
@@ -154,7 +155,7 @@ module _ {S F : Type 0} (lines : Lines S F) (layout : Layout F) (heads : HasHead
 
   -- ---- a stream in pieces
 
-  -- where no whole record is left, the end of the stream adds none
+  -- if no whole record is left, the end of the stream adds none
   pub listed_open : (st : Standing S) → first_by layout st.octets ≡ None → listed lines layout (fed st []) ≡ st
   listed_open st none =
       ap (λ (o : List ℕ). listed lines layout (record st { octets = o })) (append-nil st.octets)
@@ -164,7 +165,7 @@ module _ {S F : Type 0} (lines : Lines S F) (layout : Layout F) (heads : HasHead
   abbrev behind_text : List ℕ → Standing S → Standing S
   behind_text before st = record st { text = before ++ st.text }
 
-  -- a listing goes on from where it stands after a piece
+  -- a listing continues from its state after a piece
   listed-piece : (st next : Standing S) (piece more : List ℕ)
       → next ≡ record (listed lines layout (fed st piece)) { text = [] }
       → listed lines layout (fed st (piece ++ more))

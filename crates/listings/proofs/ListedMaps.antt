@@ -1,4 +1,4 @@
--- What is listed of a MAP.
+-- What is listed for a MAP.
 use Rattle.std.proofs.Common.{◌≡◌, ◌∙◌, ℕ, Bool, true, false, cond, eqb, List, [], ◌∷◌, ◌++◌, length, Option, Some}
 use Rattle.std.proofs.Common.{None, Result, Ok, Err, refl, sym, ap, subst, append_assoc, inl, inr, ◌+◌, get_or, set}
 use Rattle.std.proofs.Common.{arith}
@@ -30,7 +30,7 @@ use Rattle.listings.specs.OneMap.{is_on, passed, one_map_lines, one_map_text, is
 
 -- What is listed on a MAP is what the accepted segments give on it.
 
--- one segment more gives what is listed at it
+-- one more segment gives what is listed at it
 listed_once : (m : ℕ) (a : AssemblerState) (segments : List SegmentView) (s : SegmentView)
     → IsTakenExactly (after_step a s) segments s (step_at a s).packets
     → assembled a.limits m (segments ++ s ∷ []) ≡ assembled a.limits m segments ++ listed_at m a (Some s)
@@ -47,7 +47,7 @@ listed_once m a segments s exact =
     ]
 
 module _ (check : Check) (m : ℕ) where
-  -- these records tell what their accepted segments give, wherever they begin
+  -- from any state, these records list what their accepted segments give
   abbrev IsTold : List (List ℕ) → Type 0
   IsTold records =
       (x : MapState) (segments : List SegmentView) → length x.assembler.parts ≡ 64 → HasPartsOf x.assembler segments
@@ -103,7 +103,7 @@ module _ (check : Check) (m : ℕ) where
       sym (is_told records x [] (length-replicate 64 nothing) (no_parts (map_limits blocking))
       ∙ ap (λ (ps : List (List ℕ)). ps ++ listed_on check m x records) (none_either (is_open (map_limits blocking) m)))
 
--- What is listed of a MAP are the lines that a listing of all MAPs has of it.
+-- The listing of a MAP has the lines that a listing of all MAPs has for it.
 
 -- the same part is put at the same place of both
 same_set : (xs ys : List (Option (List ℕ))) (k m : ℕ) (part : Option (List ℕ)) → length xs ≡ length ys
@@ -120,7 +120,7 @@ same_set xs ys k m part count same =
     ]
 
 module _ (asked : Option ℕ) where
-  -- two assemblers that are alike on the MAP that is asked for
+  -- two assemblers that are alike on the requested MAP
   record IsAlike (a b : AssemblerState) : Type 0 where
     pub limits : a.limits ≡ b.limits
     pub count : length a.parts ≡ length b.parts
@@ -132,7 +132,7 @@ module _ (asked : Option ℕ) where
       ap (λ (l : Limits). take_step l (part_on_map a s.header.map) s) alike.limits
       ∙ ap (λ (p : Option (List ℕ)). take_step b.limits p s) (alike.parts s.header.map on)
 
-  -- both take a segment of it
+  -- both take a segment of that MAP
   both_after : (a b : AssemblerState) → IsAlike a b → (s : SegmentView) → is_asked asked s.header.map ≡ true
       → (v : Verdict) → IsAlike (assembler_after a (if_accepted v s)) (assembler_after b (if_accepted v s))
   both_after a b alike s on Accepted =
@@ -146,7 +146,7 @@ module _ (asked : Option ℕ) where
       }
   both_after a b alike s on _ = alike
 
-  -- one alone takes a segment of another MAP
+  -- only one of them takes a segment of another MAP
   one_after : (a b : AssemblerState) → IsAlike a b → (s : SegmentView) → is_asked asked s.header.map ≡ false
       → (v : Verdict) → IsAlike a (assembler_after b (if_accepted v s))
   one_after a b alike s off Accepted =
@@ -172,7 +172,7 @@ module _ (check : Check) (asked : Option ℕ) where
   abbrev listed : MapState → ℕ → List (List ℕ) → List ℕ
   listed x i records = record_lines (one_map_lines check) (record { map = asked; packets = x }) i records
 
-  -- these records have the same lines, wherever they begin
+  -- from any state, these records have the same lines
   abbrev IsSame : List (List ℕ) → Type 0
   IsSame records =
       (r : FarmState) (a b : AssemblerState) (i : ℕ) → IsAlike asked a b

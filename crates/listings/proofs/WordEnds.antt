@@ -1,4 +1,4 @@
--- Where the words of a text end, and what the octets up to there make of the words so far.
+-- Where the words of a text end, and how the octets up to there change the words so far.
 use Rattle.std.proofs.Common.{◌≡◌, ◌∙◌, ◌+◌, ◌-◌, ◌<◌, ◌≤◌, ◌∷◌, ◌++◌, List, [], ℕ, Bool, true, false, refl}
 use Rattle.std.proofs.Common.{ap, sym, arith}
 use Rattle.std.proofs.Common.{append_assoc, drop, length, suc, take, get_or, zero}
@@ -18,7 +18,7 @@ Rows = List (List ℕ × ℕ)
 abbrev pub st : Rows → List ℕ → Tallied
 st rows word = record { rows = rows; word = word }
 
--- up to the end of a word and past it
+-- up to the end of a word, with the octet that ends it
 ended_by : (parts : Bool) (rows : Rows) (w os : List ℕ) (o n : ℕ)
     → ((w : List ℕ) (n : ℕ) → word_end w os ≡ Some n
     → fold with_octet (st rows w) (take (suc n) os) ≡ st (with_ended rows (w ++ take n os)) [])
@@ -56,7 +56,8 @@ goes_on rows text n is =
     ∙ ap (λ (x : Tallied). fold with_octet x (drop (suc n) text)) (reads_word rows [] text n is)
     ∙ ap (λ (k : ℕ). fold with_octet (st (with_ended rows (take n text)) []) (drop k text)) (one_more n)
 
--- what is left after the first word makes of the words with it what all makes of them without it
+-- the text after the first word, with that word in the table, gives what the whole text gives
+-- without it
 pub next : (rows with_it : Rows) (word text : List ℕ) (n : ℕ) (all : Tallied) → word ≡ []
     → with_it ≡ with_ended rows (take n text) → word_end [] text ≡ Some n → fold with_octet (st rows word) text ≡ all
     → fold with_octet (st with_it word) (take (length text - (n + 1)) (drop (n + 1) text)) ≡ all
@@ -100,7 +101,7 @@ twice_on : (at : ℕ) (m : Option ℕ)
 twice_on at None = refl
 twice_on at (Some n) = ap (λ (x : ℕ). Some x) (omega arith)
 
--- an octet that parts no words
+-- an octet that separates no words
 pub passed : (text : List ℕ) (at : ℕ) → at < length text → parts_words (take at text) (get_or text at 0) ≡ false
     → word_end_after text (at + 1) ≡ word_end_after text at
 passed text at there inner =
@@ -131,7 +132,7 @@ pub at_end : (text : List ℕ) (at : ℕ) → length text ≤ at → word_end_af
 at_end text at none =
     ap (λ (x : List ℕ). option_map (λ n. at + n) (word_end (take at text) x)) (drop_all at text none)
 
--- what is above a space parts no words
+-- an octet above a space separates no words
 high_by : (space feed spacecraft : Bool) → space ≡ false → feed ≡ false → feed || (space && spacecraft) ≡ false
 high_by space feed spacecraft s f = rw (s, f) refl
 
@@ -141,7 +142,7 @@ high w o above =
     high_by (o == 32) (o == 10) (not (is_spacecraft w)) (ne_eqb o 32 (λ e. omega (arith, more, e)))
     (ne_eqb o 10 (λ e. omega (arith, more, e)))
 
--- none of so many octets from a place on parts words
+-- none of the n octets from a place on separates words
 pub passed_all : (n : ℕ) (text : List ℕ) (at : ℕ) → at + n ≤ length text
     → list_any (λ octet. nat_le octet 32) (take n (drop at text)) ≡ false
     → word_end_after text (at + n) ≡ word_end_after text at

@@ -1,4 +1,4 @@
--- What a table of words has, with a word so many times more.
+-- The contents of a table of words after a word is counted n times more.
 use Rattle.std.proofs.Common.{◌≡◌, ◌∙◌, ◌+◌, ◌<◌, ◌∷◌, List, [], ℕ, Some, None, Vec, map, refl, ap, sym, Ordering}
 use Rattle.std.proofs.Common.{arith, suc, zero}
 use Rattle.std.proofs.lemmas.Cmp.{nat_list_cmp_total}
@@ -16,7 +16,7 @@ use Rattle.listings.specs.Totals.{with_word}
 abbrev pub Rows : Type 0
 Rows = List (List ℕ × ℕ)
 
--- a word is none but itself
+-- a word compares as equal to itself
 pub same_by : (o : Ordering) → o ≡ ordering_reverse o → o ≡ Equal
 same_by Less is = absurd (cc is)
 same_by Equal is = refl
@@ -25,7 +25,7 @@ same_by Greater is = absurd (cc is)
 pub itself : (w : List ℕ) → slice_cmp nat_cmp w w ≡ Equal
 itself w = same_by (slice_cmp nat_cmp w w) (nat_list_cmp_total.antisymm w w)
 
--- the table with a word so many times, in one pass
+-- the table with a word n times more, in one pass
 abbrev more : Rows → List ℕ → ℕ → Rows
 more [] w n = (w, n) ∷ []
 more (row ∷ rows) w n =
@@ -61,7 +61,7 @@ in_one_pass : (rows : Rows) (w : List ℕ) (n : ℕ) → 0 < n → more rows w n
 in_one_pass rows w zero some = absurd (omega arith)
 in_one_pass rows w (suc n) some = each_time rows w n
 
--- the order of keys, and where a word stands before a key
+-- the order of keys, and of a word relative to a key
 abbrev by_octets : {A : Type 0} → Vec ℕ A → Vec ℕ A → Ordering
 by_octets x y = slice_cmp nat_cmp x.items y.items
 
@@ -69,14 +69,14 @@ abbrev against : {A : Type 0} → List ℕ → Vec ℕ A → Ordering
 against w k = slice_cmp nat_cmp w k.items
 
 module _ {A : Type 0} where
-  -- a word that is before a key is none of those after it
+  -- a word that comes before a key is not among the keys after it
   nowhere : (k : Vec ℕ A) (es : List (Vec ℕ A × ℕ)) (w : List ℕ) → against w k ≡ Less
       → AllByRecursion (λ y. by_octets k y ≡ Less) (keys_of es) → lookup (is_at (against w)) es ≡ None
   nowhere k [] w less all = refl
   nowhere k (e ∷ es) w less all =
       rw (nat_list_cmp_total.trans w k.items e.0.items less all.0) (nowhere k es w less all.1)
 
-  -- The table with a word that it has, by where the word stands before the first key, and by what is so of the others.
+  -- The table with a word that it has, by the word's order relative to the first key, and by what holds of the others.
   known_by : (e : Vec ℕ A × ℕ) (es : List (Vec ℕ A × ℕ)) (w : List ℕ) (n k m : ℕ) → m ≡ n + k
       → AllByRecursion (λ y. by_octets e.0 y ≡ Less) (keys_of es)
       → lookup (is_at (against w)) (e ∷ es) ≡ Some n

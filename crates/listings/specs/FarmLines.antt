@@ -1,4 +1,4 @@
--- The lines of a receiver: what the receiver makes of each record, and how it stands after it.
+-- The lines of a receiver: what the receiver does with each record, and its state after the record.
 use Rattle.std.specs.Prelude.{ℕ, is_ok, true, List, ◌++◌, codes, decimal, Result, Ok}
 use Rattle.std.specs.Prelude.{Err}
 use Rattle.tc_frame.specs.declared.frame.Check.{Check}
@@ -13,7 +13,7 @@ use Rattle.listings.specs.RefusalLines.{frame_fault_line}
 use Rattle.listings.specs.Listing.{Lines}
 use Rattle.listings.specs.Text.{flag_number, line_end}
 
--- the flags after a frame, and FARM-B, as its line ends
+-- the flags after a frame, and FARM-B, at the end of its line
 abbrev pub flags_text : FarmState → List ℕ
 flags_text s = codes " l=" ++ (decimal (flag_number s.lockout)
     ++ (codes " w=" ++ (decimal (flag_number s.wait)
@@ -31,7 +31,7 @@ after_body s (Bd segment) = farm_step s BdArrives
 after_body s (Bc Unlock) = farm_step s UnlockArrives
 after_body s (Bc (SetVr x)) = farm_step s (SetVrArrives x)
 
--- what came, and what the receiver made of it
+-- what arrived, and what the receiver did with it
 abbrev pub body_text : FarmState → BodyView → List ℕ
 body_text s (Ad n segment) =
     codes "AD " ++ (decimal n
@@ -56,7 +56,7 @@ farm_line check s i octets = frame_line s i (frame_at check octets)
 abbrev pub after_record : Check → FarmState → List ℕ → FarmState
 after_record check s octets = after_frame s (frame_at check octets)
 
--- what is written of frames
+-- what is written for frames
 abbrev pub farm_lines : Check → Lines FarmState TcFault
 farm_lines check = record {
   line_of = farm_line check;

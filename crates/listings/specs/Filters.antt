@@ -1,6 +1,6 @@
--- Which records of a stream are listed: those of the spacecraft, the virtual channel or the
--- application process that is asked for. A record is of those that its header names, also where it
--- is refused.
+-- Which records of a stream are listed: those of the requested spacecraft, virtual channel or
+-- application process. A record belongs to those that its header names, even if the record is
+-- refused.
 use Rattle.std.specs.Prelude.{◌≡◌, ℕ, ◌/◌, ◌%◌, ◌==◌, Bool, true, ◌&&◌, List, [], take, drop}
 use Rattle.std.specs.Prelude.{if◌then◌else◌, Option, Some, None}
 use Rattle.octets.specs.Number.{number_of}
@@ -13,8 +13,8 @@ use Rattle.tm_link.specs.Layout.{IsTmFrame}
 use Rattle.space_packet.specs.Layout.{PacketView, IsPacket}
 use Rattle.listings.specs.Listing.{Lines}
 
--- what is written of the records that are kept: another one has no line, changes nothing, and is
--- good
+-- what is written for the records that are kept; any other record has no line, changes nothing, and
+-- counts as good
 abbrev pub only : {S F : Type 0} → (List ℕ → Bool) → Lines S F → Lines S F
 only keeps lines = record {
   line_of = λ s i r. if keeps r then lines.line_of s i r else [];
@@ -23,7 +23,7 @@ only keeps lines = record {
   fault_line = lines.fault_line;
 }
 
--- a number is the one that is asked for, where one is
+-- whether a number is the requested one; without a request each number is
 abbrev pub is_asked : Option ℕ → ℕ → Bool
 is_asked None n = true
 is_asked (Some asked) n = n == asked
@@ -44,7 +44,7 @@ telemetry_scid octets = number_of (take 2 octets) / 16 % 1024
 abbrev pub telemetry_vcid : List ℕ → ℕ
 telemetry_vcid octets = number_of (take 2 octets) / 2 % 8
 
--- the virtual channel that a control word reports on (CCSDS 232.0-B-4, 4.2.1.6)
+-- the virtual channel that a CLCW reports on (CCSDS 232.0-B-4, 4.2.1.6)
 abbrev pub word_vcid : List ℕ → ℕ
 word_vcid octets = number_of (take 2 octets) / 4 % 64
 
@@ -68,11 +68,12 @@ keeps_telemetry scid vcid octets =
 abbrev pub keeps_packet : ℕ → List ℕ → Bool
 keeps_packet apid octets = packet_apid octets == apid
 
--- control words on this virtual channel
+-- CLCWs on this virtual channel
 abbrev pub keeps_word : ℕ → List ℕ → Bool
 keeps_word vcid octets = word_vcid octets == vcid
 
--- What spells a frame, a control word or a packet, by their layouts, names what the fields say.
+-- The octets that spell a frame, a CLCW or a packet by its layout name the identifiers in its
+-- fields.
 pub record NamesItsFields : Type 0 where
   pub frame : (check : Check) (f : FrameView) (octets : List ℕ) → IsTcFrame check f octets
       → (frame_scid octets ≡ f.scid) × (frame_vcid octets ≡ f.vcid)

@@ -1,4 +1,4 @@
--- A receiver that begins at the first number that it hears.
+-- A receiver that begins at the first number that arrives.
 use Rattle.std.specs.Prelude.{ℕ, Bool, true, false, List, Option, Some, None, Result, Ok, Err}
 use Rattle.tc_frame.specs.declared.frame.Check.{Check}
 use Rattle.tc_frame.specs.declared.frame.Command.TheVariants.{Unlock, SetVr}
@@ -23,7 +23,7 @@ number_in (Err e) = None
 abbrev pub farm_begun : FarmState → ℕ → FarmState
 farm_begun s vr = record s { vr = vr }
 
--- what a listing keeps, and whether its receiver has heard no number yet
+-- what a listing keeps, and whether its receiver has not received a number yet
 pub record Awaiting (S : Type 0) : Type 0 where
   pub awaits : Bool
   pub kept : S
@@ -35,11 +35,11 @@ module _ {S : Type 0} (begun : S → ℕ → S) where
   heard_by true s None = record { awaits = true; kept = s }
   heard_by false s number = record { awaits = false; kept = s }
 
-  -- and so does that of a listing, at a record
+  -- and so does the receiver of a listing, at a record
   abbrev pub heard : Check → Awaiting S → List ℕ → Awaiting S
   heard check x r = heard_by x.awaits x.kept (number_in (frame_at check r))
 
-  -- what is written of frames where the receiver may begin so
+  -- what is written for frames if the receiver may begin at the first number
   abbrev pub from_first : {F : Type 0} → Check → Lines S F → Lines (Awaiting S) F
   from_first check lines = record {
     line_of = λ x i r. lines.line_of (heard check x r).kept i r;

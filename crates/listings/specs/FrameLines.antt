@@ -37,7 +37,7 @@ abbrev pub frame_line : ℕ → Result FrameView TcFault → List ℕ
 frame_line i (Ok f) = decimal i ++ (codes " " ++ (channel_text f ++ body_line f.body))
 frame_line i (Err e) = frame_fault_line i e
 
--- what is written of frames
+-- what is written for frames
 abbrev pub frame_lines : Check → Lines (Unit {0}) TcFault
 frame_lines check = record {
   line_of = λ s i octets. frame_line i (frame_at check octets);

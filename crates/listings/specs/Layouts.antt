@@ -1,5 +1,4 @@
--- How a stream of octets is cut into records, and the four ways in which the files of the commands
--- are.
+-- How a stream of octets is cut into records, and the four layouts of the commands' files.
 use Rattle.std.specs.Prelude.{◌≡◌, ◌≤◌, ℕ, List, take, length, nat_lt, if◌then◌else◌, Option, Some}
 use Rattle.std.specs.Prelude.{Result, Ok, Err, drop}
 use Rattle.clcw.specs.declared.word.Clcw.{Clcw}
@@ -20,22 +19,22 @@ use Rattle.listings.specs.declared.control_words.WordFault.TheVariants as words
 use Rattle.listings.specs.declared.frame_cutter.FrameCutter.{FrameCutter}
 use Rattle.listings.specs.declared.frame_cutter.FrameLength as lengths
 
--- How a stream is cut into records. F is why octets are refused as no record.
+-- How a stream is cut into records. F is the fault of octets that do not form a record.
 pub record Layout (F : Type 0) : Type 0 where
-  -- how many octets give a record's length
+  -- how many octets declare a record's length
   pub head : ℕ
-  -- the length that they give
+  -- the length that they declare
   pub extent : List ℕ → Result ℕ F
-  -- why octets are refused that end before their record does
+  -- the fault of octets that end before their record does
   pub truncated : F
 
--- A record has the octets that give its length, and they are some.
+-- A record contains the octets that declare its length, and there is at least one.
 pub record HasHeads {F : Type 0} (layout : Layout F) : Type 0 where
   pub some_head : 1 ≤ layout.head
   pub has_head : (octets : List ℕ) (n : ℕ) → layout.extent octets ≡ Ok n → layout.head ≤ n
 
 module _ {F : Type 0} (layout : Layout F) where
-  -- the record that octets begin with, or why they are refused; none where some are missing
+  -- the record that octets begin with, or why they are refused; none if octets are missing
   abbrev pub first_by : List ℕ → Option (Result (List ℕ) F)
   first_by octets = first_record layout.head layout.extent octets
 
@@ -69,7 +68,7 @@ module _ {F : Type 0} (layout : Layout F) where
 abbrev pub frame_layout : Check → Layout TcFault
 frame_layout check = record { head = 5; extent = total_at check; truncated = Short }
 
--- every this many octets are a telemetry frame, whatever they are
+-- each run of this many octets is a telemetry frame, whatever it contains
 abbrev pub frame_extent : ℕ → List ℕ → Result ℕ TmFault
 frame_extent size head = Ok size
 
@@ -80,14 +79,14 @@ telemetry_layout size = record { head = size; extent = frame_extent size; trunca
 abbrev pub packet_layout : Layout PacketFault
 packet_layout = record { head = 6; extent = extent_at; truncated = Truncated }
 
--- control words: every four octets are one, whatever they are (CCSDS 232.0-B-4, 4.2.1)
+-- CLCWs: each four octets are one, whatever they contain (CCSDS 232.0-B-4, 4.2.1)
 abbrev pub word_extent : List ℕ → Result ℕ WordFault
 word_extent head = Ok 4
 
 abbrev pub word_layout : Layout WordFault
 word_layout = record { head = 4; extent = word_extent; truncated = words.Short }
 
--- the control word of a record, or why it is none
+-- the CLCW of a record, or why the record is not a valid CLCW
 abbrev pub as_word : Result Clcw ClcwFault → Result Clcw WordFault
 as_word (Ok word) = Ok word
 as_word (Err fault) = Err (words.Refused fault)
@@ -97,6 +96,6 @@ word_in octets = if nat_lt (length octets) 4 then Err words.Short else as_word (
 
 -- What is held of a stream of telemetry frames.
 
--- the octets that were fed and not handed out
+-- the octets that were fed and not returned yet
 abbrev pub frames_held : {K : Type 0} {size : lengths.Ghosts K} → FrameCutter K size → List ℕ
 frames_held c = drop c.start c.octets.items

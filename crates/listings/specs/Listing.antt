@@ -1,4 +1,4 @@
--- What a command writes of a stream of records: the lines of each record in turn, and a line for a
+-- What a command writes for a stream of records: the lines of each record in turn, and a line for a
 -- rest.
 use Rattle.std.specs.Prelude.{◌≡◌, None, ℕ, ◌+◌, ◌≤◌, Bool, true, false, ◌&&◌, List, [], ◌∷◌, ◌++◌}
 use Rattle.std.specs.Prelude.{length, Option, Some, Result, Err}
@@ -8,8 +8,8 @@ use Rattle.streams.specs.Pieces.{Taking}
 use Rattle.listings.specs.declared.stream.Summary.{Summary}
 use Rattle.listings.specs.declared.stream.Progress.{Progress}
 
--- What a command writes. S is what it keeps between two records, F is why octets are refused as no
--- record.
+-- What a command writes. S is what it keeps between two records, and F is the fault of octets that
+-- do not form a record.
 pub record Lines (S F : Type 0) : Type 0 where
   -- the lines of a record with this number
   pub line_of : S → ℕ → List ℕ → List ℕ
@@ -17,10 +17,10 @@ pub record Lines (S F : Type 0) : Type 0 where
   pub after : S → List ℕ → S
   -- whether a record is good
   pub is_good : List ℕ → Bool
-  -- the line of octets with this number that are no record
+  -- the line with this number for octets that do not form a record
   pub fault_line : ℕ → F → List ℕ
 
--- How a listing stands: the text so far, what is kept, how many records there were and whether all
+-- The state of a listing: the text so far, what is kept, how many records there were, whether all
 -- were good, and the octets that are not listed yet.
 pub record Standing (S : Type 0) : Type 0 where
   pub text : List ℕ
@@ -42,7 +42,7 @@ is_empty [] = true
 is_empty (octet ∷ octets) = false
 
 module _ {S F : Type 0} (lines : Lines S F) where
-  -- the lines of records, the first of which has this number
+  -- the lines of records, counted from this number
   abbrev pub record_lines : S → ℕ → List (List ℕ) → List ℕ
   record_lines s i [] = []
   record_lines s i (r ∷ rs) = lines.line_of s i r ++ record_lines (lines.after s r) (i + 1) rs
@@ -67,12 +67,12 @@ module _ {S F : Type 0} (lines : Lines S F) where
     abbrev pub listed : Standing S → Standing S
     listed st = behind st (records_by layout st.octets) (rest_by layout st.octets)
 
-    -- the line of a rest, where there is one
+    -- the line of a rest, if there is one
     abbrev pub rest_line : ℕ → List ℕ → List ℕ
     rest_line i [] = []
     rest_line i (octet ∷ octets) = lines.fault_line i (rest_fault layout (octet ∷ octets))
 
-    -- all that is written where the octets end here
+    -- all that is written if the octets end here
     abbrev pub text_of : Standing S → List ℕ
     text_of st = (listed st).text ++ rest_line ((listed st).count + 1) (listed st).octets
 
@@ -94,8 +94,8 @@ module _ {S F : Type 0} (lines : Lines S F) where
       pub next_is : next ≡ record (listed st) { text = [] }
       pub is_open : first_by layout (listed st).octets ≡ None
 
-    -- What a listing makes of a stream that comes in pieces. L keeps where it stands, and why
-    -- octets were refused.
+    -- How a listing takes a stream that arrives in pieces. L keeps its state, and why octets were
+    -- refused.
     abbrev pub listing_of : {L : Type 0} → (L → Option F) → (L → S → Standing S)
         → Taking L S Summary
     listing_of failure stands = record {
@@ -108,7 +108,7 @@ module _ {S F : Type 0} (lines : Lines S F) where
           × ((stands l s).count + length (stands l s).octets ≤ n);
     }
 
--- How a listing goes on, seen from the code.
+-- How a listing continues, as the code sees it.
 
 abbrev pub standing : {S : Type 0} → List ℕ → S → Progress → List ℕ → Standing S
 standing text kept progress octets =
@@ -121,7 +121,7 @@ standing text kept progress octets =
       octets = octets;
     }
 
--- a where_refused, or that octets are missing
+-- a refusal with its fault, or that octets are missing
 abbrev pub where_refused : {F : Type 0} → Option F → Option (Result (List ℕ) F)
 where_refused None = None
 where_refused (Some fault) = Some (Err fault)

@@ -1,4 +1,4 @@
--- The packets out of each frame, by the receiver's table and then by the assembler's, and what is
+-- The packets from each frame, by the receiver's table and then by the assembler's, and what is
 -- dropped.
 use Rattle.std.specs.Prelude.{ℕ, is_ok, Bool, true, false, ◌&&◌, List, [], ◌++◌, map, replicate}
 use Rattle.std.specs.Prelude.{codes, decimal, if◌then◌else◌, Option, Some, None, Result, Ok, Err}
@@ -24,7 +24,7 @@ use Rattle.listings.specs.RefusalLines.{frame_fault_line}
 use Rattle.listings.specs.Listing.{Lines}
 use Rattle.listings.specs.Text.{octets_line, line_end}
 
--- the receiver, and the one assembler that takes what it accepts
+-- the receiver, and the one assembler that takes what the receiver accepts
 pub record MapState : Type 0 where
   pub receiver : FarmState
   pub assembler : AssemblerState
@@ -43,9 +43,9 @@ abbrev pub map_opened : ℕ → ℕ → Bool → MapState
 map_opened width vr blocking =
     record { receiver = new_farm width vr; assembler = none_open blocking }
 
--- ---- what the assembler is given
+-- ---- what the assembler takes
 
--- a segment that came in a Type-AD frame, where the receiver accepts it
+-- the segment of a Type-AD frame, if the receiver accepts it
 abbrev pub if_accepted : Verdict → SegmentView → Option SegmentView
 if_accepted Accepted s = Some s
 if_accepted Ahead s = None
@@ -54,7 +54,7 @@ if_accepted Behind s = None
 if_accepted Outside s = None
 if_accepted Discarded s = None
 
--- the segment that a frame gives to the assembler, where it gives one; the buffer on board is free
+-- the segment that a frame gives to the assembler, if it gives one; the buffer on board is free
 abbrev pub segment_of : FarmState → BodyView → Option SegmentView
 segment_of r (Ad n s) = if_accepted (verdict_of r n true) s
 segment_of r (Bd s) = None
@@ -95,7 +95,7 @@ cause_text i (Some cause) = dropped_line i (cause_row cause).1
 abbrev pub map_packets_text : ℕ → List (List ℕ) → List ℕ
 map_packets_text m packets = concat (map (on_map_line (codes "packet ") m) packets)
 
--- what the assembler drops at a segment of MAP m, and then what it hands out
+-- what the assembler drops at a segment of MAP m, and then the packets that it delivers
 abbrev pub outcome_text : ℕ → ℕ → TakeOutcome → List ℕ
 outcome_text i m o = cause_text i o.dropped ++ map_packets_text m o.packets
 
@@ -109,7 +109,7 @@ are_alone Continuing = false
 are_alone Last = false
 are_alone Alone = true
 
--- a Type-BD frame carries one packet, whole
+-- whether the segment of a Type-BD frame is exactly one whole packet
 abbrev pub is_bypass : SegmentView → Bool
 is_bypass s = are_alone s.header.flags && is_packet s.payload
 
@@ -128,7 +128,7 @@ abbrev pub record_text : MapState → ℕ → Result FrameView TcFault → List 
 record_text x i (Ok f) = body_text x i f.body
 record_text x i (Err e) = frame_fault_line i e
 
--- what is written of frames; what is dropped makes no frame bad
+-- what is written for frames; a frame counts as good even if something is dropped
 abbrev pub map_lines : Check → Lines MapState TcFault
 map_lines check = record {
   line_of = λ x i octets. record_text x i (frame_at check octets);

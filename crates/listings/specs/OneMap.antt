@@ -14,7 +14,7 @@ use Rattle.listings.specs.MapLines.{MapState, map_opened, after_body, after_reco
 use Rattle.listings.specs.MapLines.{record_text}
 use Rattle.listings.specs.RefusalLines.{frame_fault_line}
 
--- the MAP that is asked for, where one is, and the receiver and the assembler
+-- the requested MAP, if there is one, and the receiver and the assembler
 pub record OneMapState : Type 0 where
   pub map : Option ℕ
   pub packets : MapState
@@ -25,7 +25,7 @@ is_on map (Ad n s) = is_asked map s.header.map
 is_on map (Bd s) = is_asked map s.header.map
 is_on map (Bc command) = true
 
--- after a frame of which the receiver alone is given something
+-- after a frame that only the receiver takes
 abbrev pub passed : MapState → BodyView → MapState
 passed x body = record x { receiver = farms.after_body x.receiver body }
 
@@ -40,13 +40,13 @@ abbrev pub one_map_text : OneMapState → ℕ → Result FrameView TcFault → L
 one_map_text x i (Ok f) = if is_on x.map f.body then body_text x.packets i f.body else []
 one_map_text x i (Err e) = frame_fault_line i e
 
--- where the receiver expects this number
+-- with a receiver that expects this number
 abbrev pub one_map_begun : OneMapState → ℕ → OneMapState
 one_map_begun x vr = record x {
   packets = record x.packets { receiver = farm_begun x.packets.receiver vr };
 }
 
--- what is written of frames
+-- what is written for frames
 abbrev pub one_map_lines : Check → Lines OneMapState TcFault
 one_map_lines check = record {
   line_of = λ x i octets. one_map_text x i (frame_at check octets);
@@ -55,12 +55,12 @@ one_map_lines check = record {
   fault_line = frame_fault_line;
 }
 
--- a record is no frame with a segment of another MAP
+-- a record is not a frame with a segment of another MAP
 abbrev pub is_record_on : Option ℕ → Result FrameView TcFault → Bool
 is_record_on map (Ok f) = is_on map f.body
 is_record_on map (Err e) = true
 
--- the lines that a listing of all MAPs has of these records, of those that are no frames with a
+-- the lines that a listing of all MAPs has for these records, without the frames that have a
 -- segment of another MAP; the first record has this number
 abbrev pub lines_on : Check → Option ℕ → MapState → ℕ → List (List ℕ) → List ℕ
 lines_on check map x i [] = []
@@ -68,7 +68,7 @@ lines_on check map x i (o ∷ os) =
     (if is_record_on map (frame_at check o) then record_text x i (frame_at check o) else [])
     ++ lines_on check map (after_record check x o) (i + 1) os
 
--- what is listed of a MAP are the lines that a listing of all MAPs has of it
+-- the listing of a MAP has the lines that a listing of all MAPs has for it
 abbrev pub ListsAsAll : Type 0
 ListsAsAll =
     (check : Check) (map : Option ℕ) (width vr : ℕ) (blocking : Bool) (records : List (List ℕ))

@@ -1,5 +1,5 @@
--- The lines of packets: what each packet says, and how many of its application process are
--- missing before it.
+-- The lines of packets: the fields of each packet, and how many packets of its application process
+-- are missing before it.
 use Rattle.std.specs.Prelude.{ℕ, is_ok, List, ◌++◌, codes, decimal, get_or, replicate, Option, Some}
 use Rattle.std.specs.Prelude.{None, Result, Ok, Err}
 use Rattle.space_packet.specs.declared.packet.PacketKind.{PacketKind}
@@ -16,7 +16,7 @@ unfoldable pub kind_word : PacketKind → List ℕ
 kind_word Telemetry = codes "TM"
 kind_word Telecommand = codes "TC"
 
--- the packet identification, of a word for the type and the flag as a number
+-- the packet identification, from a word for the type and the flag as a number
 abbrev pub process_text : List ℕ → ℕ → ℕ → List ℕ
 process_text kind secondary apid =
     kind ++ (codes " secondary=" ++ (decimal secondary ++ (codes " apid=" ++ decimal apid)))
@@ -25,12 +25,12 @@ process_text kind secondary apid =
 abbrev pub sequence_text : PacketView → List ℕ
 sequence_text p = codes " flags=" ++ (decimal p.flags ++ (codes " count=" ++ decimal p.count))
 
--- how many packets are missing; none is known for the first of an application process
+-- how many packets are missing; this is not known for the first packet of an application process
 abbrev pub gap_text : Option ℕ → List ℕ
 gap_text None = codes " gap=- data="
 gap_text (Some n) = codes " gap=" ++ (decimal n ++ codes " data=")
 
--- no packet was seen of any APID
+-- no packet of any APID was seen
 unfoldable pub none_seen : List (Option ℕ)
 none_seen = replicate 2048 None
 
@@ -50,7 +50,7 @@ abbrev pub after_packet : List (Option ℕ) → Result (PacketView × ℕ) Packe
 after_packet seen (Ok (p, n)) = counts_seen seen p.apid p.count
 after_packet seen (Err e) = seen
 
--- what is written of packets
+-- what is written for packets
 abbrev pub packet_lines : Lines (List (Option ℕ)) PacketFault
 packet_lines = record {
   line_of = λ seen i octets. packet_line seen i (packet_at octets);

@@ -6,33 +6,33 @@ use Rattle.listings.specs.Totals.{Tallied, is_counted, parts_words, shown, with_
 use Rattle.listings.specs.declared.totals.Tally.{Tally}
 use Rattle.listings.specs.declared.phrases.Phrase.{Phrase}
 
--- the words that end in a text, of the first of which these octets have come
+-- the words that end in a text; these octets of the first word have come before
 abbrev pub words_in : List ℕ → List ℕ → List (List ℕ)
 words_in word [] = []
 words_in word (octet ∷ octets) =
     if parts_words word octet then word ∷ words_in [] octets
     else words_in (word ++ octet ∷ []) octets
 
--- the word that has begun where a text ends
+-- the word that has begun when a text ends
 abbrev pub begun_in : List ℕ → List ℕ → List ℕ
 begun_in word [] = word
 begun_in word (octet ∷ octets) =
     if parts_words word octet then begun_in [] octets else begun_in (word ++ octet ∷ []) octets
 
--- a table, where no word has begun
+-- a table, with no word begun
 abbrev pub none_begun : List (List ℕ × ℕ) → Tallied
 none_begun rows = record { rows = rows; word = [] }
 
--- a table with a word so many times
+-- a table with a word n times more
 abbrev pub with_words : List (List ℕ × ℕ) → List ℕ → ℕ → List (List ℕ × ℕ)
 with_words rows word zero = rows
 with_words rows word (suc n) = with_word (with_words rows word n) word
 
--- the same, where the word is counted
+-- the same, if the word is one that is counted
 abbrev pub with_ended_times : List (List ℕ × ℕ) → List ℕ → ℕ → List (List ℕ × ℕ)
 with_ended_times rows word n = if is_counted word then with_words rows (shown word) n else rows
 
--- with each of these words so many times
+-- with each of these words n times more
 abbrev pub with_each : List (List ℕ × ℕ) → List (List ℕ) → ℕ → List (List ℕ × ℕ)
 with_each rows [] n = rows
 with_each rows (word ∷ words) n = with_each (with_ended_times rows word n) words n
@@ -47,7 +47,7 @@ of_phrases rows (phrase ∷ more) =
 abbrev pub phrase_words : Phrase → List ℕ
 phrase_words phrase = take (min phrase.len 64) phrase.octets
 
--- with those of such phrases
+-- with the words of such phrases
 abbrev pub with_phrases : List (List ℕ × ℕ) → List Phrase → List (List ℕ × ℕ)
 with_phrases rows phrases =
     of_phrases rows (map (λ phrase. (phrase_words phrase, phrase.times)) phrases)
@@ -56,7 +56,7 @@ with_phrases rows phrases =
 abbrev pub row_of : {A : Type 0} → Vec ℕ A × ℕ → List ℕ × ℕ
 row_of row = (row.0.items, row.1)
 
--- with the phrases of a table, and these
+-- with the phrases of a table, and with these phrases
 abbrev pub counted : {A : Type 0} → List (List ℕ × ℕ) → List (Vec ℕ A × ℕ) → List Phrase
     → List (List ℕ × ℕ)
 counted rows entries phrases = with_phrases (of_phrases rows (map row_of entries)) phrases
@@ -75,7 +75,7 @@ are_whole (phrase ∷ more) = is_empty (begun_in [] (phrase_words phrase)) && ar
 abbrev pub AreWhole : List Phrase → Type 0
 AreWhole phrases = are_whole phrases ≡ true
 
--- The first octets of a text are words, and the phrases now have these once more.
+-- The first octets of a text are words, and the phrases now have these words once more.
 pub record HaveOnceMore (old new : List Phrase) (text : List ℕ) (n : ℕ) : Type 0 where
   pub some : 0 < n
   pub within : n ≤ length text

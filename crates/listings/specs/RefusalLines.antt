@@ -12,7 +12,7 @@ use Rattle.tc_frame.specs.Faults as frames
 use Rattle.space_packet.specs.Faults as packets
 use Rattle.tm_link.specs.Faults as telemetry
 
--- The lines of octets that are refused: of a record that is refused, or of a rest.
+-- The lines of refused octets: a refused record, or a rest.
 
 abbrev pub frame_fault_line : ℕ → TcFault → List ℕ
 frame_fault_line i e = invalid_line i (frames.fault_row e)
@@ -23,14 +23,14 @@ packet_fault_line i e = invalid_line i (packets.fault_row e)
 abbrev pub telemetry_fault_line : ℕ → TmFault → List ℕ
 telemetry_fault_line i e = invalid_line i (telemetry.fault_row e)
 
--- The lines of refused frames: the frames that are refused.
+-- The lines of refused frames.
 
 -- a good frame has no line
 abbrev pub refusal_line : ℕ → Result FrameView TcFault → List ℕ
 refusal_line i (Ok f) = []
 refusal_line i (Err e) = frame_fault_line i e
 
--- what is written of frames that end with their check
+-- what is written for frames that end with their check
 abbrev pub refusal_lines : Lines (Unit {0}) TcFault
 refusal_lines = record {
   line_of = λ s i octets. refusal_line i (frame_at On octets);

@@ -1,5 +1,5 @@
--- The lines of TM frames: what each frame says, how many are missing before it, and the packets
--- that are finished with it.
+-- The lines of TM frames: the fields of each frame, how many frames are missing before it, and
+-- the packets that it finishes.
 use Rattle.std.specs.Prelude.{ℕ, is_ok, Bool, true, false, List, [], ◌++◌, map, codes, decimal}
 use Rattle.std.specs.Prelude.{Result, Ok, Err}
 use Rattle.std.specs.List.{concat}
@@ -18,7 +18,7 @@ use Rattle.listings.specs.ReportLines.{field_line}
 use Rattle.listings.specs.Listing.{Lines}
 use Rattle.listings.specs.Text.{octets_line, line_end}
 
--- the one extractor that takes all frames, and whether control words have a line
+-- the one extractor that takes all frames, and whether CLCWs have a line
 pub record TelemetryState : Type 0 where
   pub reports : Bool
   pub extractor : ExtractorState
@@ -42,7 +42,7 @@ pointer_text (At place) = decimal place
 pointer_text NoStart = codes "none"
 pointer_text OnlyIdle = codes "idle"
 
--- how many frames are missing; none is known for the first
+-- how many frames are missing; this is not known for the first
 abbrev pub lost_text : Gap → List ℕ
 lost_text First = codes "-"
 lost_text (Lost n) = decimal n
@@ -61,7 +61,7 @@ finished_line packet = codes "packet " ++ octets_line packet
 abbrev pub finished_lines : List (List ℕ) → List ℕ
 finished_lines packets = concat (map finished_line packets)
 
--- the line of the operational control field, where it has one
+-- the line of the operational control field, if such lines are requested
 abbrev pub report_text : Bool → FrameView → List ℕ
 report_text true f = field_line (clcw_at f.ocf)
 report_text false f = []
@@ -73,12 +73,12 @@ record_text x i (Ok f) =
     ++ (report_text x.reports f ++ finished_lines (extract_step x.extractor f).packets)
 record_text x i (Err e) = telemetry_fault_line i e
 
--- the extractor after a record; it is not given one that is refused
+-- the extractor after a record; it does not take a refused record
 abbrev pub after_record : TelemetryState → Result FrameView TmFault → TelemetryState
 after_record x (Ok f) = record x { extractor = (extract_step x.extractor f).after }
 after_record x (Err e) = x
 
--- what is written of frames of this many octets; one extractor takes them all
+-- what is written for frames of this many octets; one extractor takes them all
 abbrev pub telemetry_lines : ℕ → Lines TelemetryState TmFault
 telemetry_lines size = record {
   line_of = λ x i octets. record_text x i (frame_at size octets);

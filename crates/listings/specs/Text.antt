@@ -22,13 +22,13 @@ abbrev pub flag_number : Bool → ℕ
 flag_number true = 1
 flag_number false = 0
 
--- What is written in a text, and what is put into room of octets.
+-- The contents of a text.
 
 -- the octets of a text
 abbrev pub written : Text → List ℕ
 written t = take t.len t.octets.items
 
--- where the call goes well, these octets stand after those that the text had
+-- if the call succeeds, these octets follow those that the text had
 abbrev pub Appends : {T E : Type 0} → Result T E → Text → Text → List ℕ → Type 0
 Appends result old new octets = OnOk result (written new ≡ written old ++ octets)
 
@@ -37,7 +37,7 @@ Appends result old new octets = OnOk result (written new ≡ written old ++ octe
 abbrev pub four_digits : ℕ → List ℕ
 four_digits n = (48 + n / 1000) ∷ (48 + n / 100 % 10) ∷ (48 + n / 10 % 10) ∷ (48 + n % 10) ∷ []
 
--- the decimal digits of a number before the last one, of its tens
+-- the decimal digits of a number before its last one, from its tens
 abbrev pub leading_digits : ℕ → List ℕ
 leading_digits zero = []
 leading_digits (suc t) = decimal (suc t)

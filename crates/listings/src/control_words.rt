@@ -1,4 +1,4 @@
-// Control words as the records of a stream.
+// CLCWs as the records of a stream.
 
 ghost use Rattle.std.specs.Prelude.{◌≡◌, ◌<◌, length};
 ghost use Rattle.std.proofs.Common.{arith, rules};
@@ -11,21 +11,21 @@ ghost use Rattle.listings.specs.declared.control_words.WordFault.TheVariants as 
 use clcw::{Clcw, ClcwFault, decode};
 use octets::Wire;
 
-/// Why octets of a stream are no control word.
+/// Why octets of a stream are not a valid CLCW.
 #[derive(Clone, Copy, Debug, PartialEq, Eq)]
 pub enum WordFault {
-    /// Four octets that are refused as a control word, 1 to 4.
+    /// Four octets are refused as a CLCW, 1 to 4.
     Refused(ClcwFault),
-    /// The stream ends within a control word.
+    /// The stream ends within a CLCW.
     Short,
-    /// There was no memory.
+    /// Memory ran out.
     Memory,
 }
 
 impl WordFault {
     ghost use Rattle.listings.specs.ReportLines.{fault_row};
 
-    /// The fault's number, from 1.
+    /// Returns the fault's number, from 1.
     pub fn number(self) -> u8
         ensures { result ≡ (fault_row self).0 }
     {
@@ -36,7 +36,7 @@ impl WordFault {
         }
     }
 
-    /// The fault's name, as it is written here.
+    /// Returns the fault's name, as it is written here.
     pub fn name(self) -> &'static str
         ensures { result.now ≡ (fault_row self).1 }
     {
@@ -48,7 +48,7 @@ impl WordFault {
     }
 }
 
-/// Control words as records of a stream, four octets each (CCSDS 232.0-B-4, 4.2.1).
+/// CLCWs as records of a stream, four octets each (CCSDS 232.0-B-4, 4.2.1).
 #[derive(Clone, Copy, Debug, PartialEq, Eq)]
 pub struct ControlWords;
 
@@ -90,7 +90,7 @@ impl Wire for ControlWords {
     ghost own_extent = { Prim.search (rules, common_steps) };
 }
 
-/// The control word that a record spells.
+/// Returns the CLCW that a record spells.
 /// Faults: `Refused`, `Short`.
 #[tactic(auto, unfolding(clcw::specs::Decoding::clcw_at))]
 pub fn word_in(octets: &[u8]) -> Result<Clcw, WordFault>

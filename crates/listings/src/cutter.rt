@@ -1,4 +1,4 @@
-// What cuts a stream that comes in pieces into its records.
+// Cuts a stream that arrives in pieces into its records.
 
 ghost use Rattle.std.specs.Prelude.{◌≡◌, ◌<◌, ◌++◌, ◌↔◌, ℕ, List, Option, length, IsNone, IsErr, IfErr, OnOk, OnErr};
 ghost use Rattle.std.specs.Borrow.{sem};
@@ -8,7 +8,7 @@ ghost use Rattle.listings.specs.Layouts.{Layout, HasHeads, first_by};
 
 use octets::{Splitter, Wire};
 
-/// Cuts a stream that comes in pieces into its records, however it was cut into pieces.
+/// Cuts a stream that arrives in pieces into its records, whatever the pieces are.
 pub trait Cutter {
     /// Why octets are refused.
     type Fault: Copy;
@@ -16,15 +16,15 @@ pub trait Cutter {
     // How the stream is cut into records.
     ghost layout: { Layout Self.Fault };
 
-    // The octets that were fed and not handed out, and the fault of a refused extent.
+    // The octets that were fed and not returned yet, and the fault of a refused extent.
     ghost held: { Self → List ℕ };
 
     ghost failure: { Self → Option Self.Fault };
 
-    // The fault of want of memory.
+    // The fault if memory runs out.
     ghost memory_fault: { Self.Fault };
 
-    /// Takes more octets of the stream. At a fault nothing has changed.
+    /// Takes more octets of the stream. After a fault nothing has changed.
     /// Faults: the layout's, for want of memory. Memory: yes. Cost: n and the octets held.
     fn feed(&mut self, octets: &[u8]) -> Result<(), Self::Fault>
         ensures ok { OnOk result (held self.new ≡ held self.old ++ octets.now) }
@@ -32,7 +32,7 @@ pub trait Cutter {
         ensures fault { IfErr result (λ e. e ≡ memory_fault) }
         ensures failure { failure self.new ≡ failure self.old };
 
-    /// The next whole record, or the fault of its extent; `None` while octets are missing.
+    /// Returns the next whole record, or the fault of its extent; `None` while octets are missing.
     /// Faults: the layout's, of a length.
     fn next(&mut self) -> Option<Result<&[u8], &Self::Fault>>
         ensures* rests { sem 𝓛 (Rests Self.row self.entry (λ last.
@@ -40,7 +40,7 @@ pub trait Cutter {
             × (failure last ≡ failure_after (lent_view result) (failure self.old)))) }
         ensures answer { lent_view result ≡ first_by layout (held self.old) };
 
-    /// Whether the stream may end here.
+    /// Returns whether the stream may end here.
     /// Faults: the layout's, of octets that are left.
     fn finish(&self) -> Result<(), Self::Fault>
         ensures truncated { IsErr result

@@ -1,4 +1,5 @@
-// The line of each TC frame as a receiver takes it: its verdict, and how the receiver stands then.
+// The line of each TC frame as a receiver takes it: the verdict, and the receiver's state after the
+// frame.
 
 ghost use Rattle.std.specs.Prelude.{◌≡◌, ◌+◌, ◌≤◌, ◌++◌, codes, decimal, length, take, OnOk, IfOk, is_ok};
 ghost use Rattle.tc_frame.specs.Layout.{body_view, frame_view};
@@ -123,8 +124,8 @@ pub fn give(farm: &mut Farm, body: &Body)
     }
 }
 
-/// Gives a frame to the receiver, whose buffer is free, and puts the record's number and what it made of it.
-/// Each kind of frame puts the number itself, so that none is asked for twice.
+/// Gives a frame to the receiver, whose buffer is free. Puts the record's number, and what the receiver did
+/// with the frame. Each kind of frame puts the number itself, so that the kind is not tested twice.
 #[inline(always)]
 fn put_body(room: &mut [u8], at: usize, farm: &mut Farm, index: &RecordNumber, body: &Body) -> usize
     requires { at + 64 ≤ length room.old }
@@ -176,7 +177,7 @@ fn put_frame(
     put_receiver(room, next, farm)
 }
 
-/// Gives a record to the receiver, appends its line, and answers whether it is a frame.
+/// Gives a record to the receiver, appends its line, and returns whether the record is a frame.
 #[inline(always)]
 fn push_frame<const CHECKED: bool>(
     text: &mut Text,

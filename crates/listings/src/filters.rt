@@ -7,23 +7,23 @@ ghost use Rattle.listings.specs.Filters.{keeps_frame, keeps_telemetry, keeps_pac
 
 use octets::first_two;
 
-/// What says of a record, by its header, whether it is listed.
+/// Decides by a record's header whether the record is listed.
 pub trait Filter: Copy {
     ghost keeps: { Self → List ℕ → Bool };
 
-    /// Whether the record is listed.
+    /// Returns whether the record is listed.
     fn keeps(&self, octets: &[u8]) -> bool
         ensures { result ≡ keeps self.now octets.now };
 }
 
-/// The telecommand frames of this spacecraft and this virtual channel, where they are given.
+/// The telecommand frames of this spacecraft and this virtual channel, if they are given.
 #[derive(Clone, Copy, Drop)]
 pub struct FramesOf {
     pub scid: Option<u16>,
     pub vcid: Option<u8>,
 }
 
-/// The telemetry frames of this spacecraft and this virtual channel, where they are given.
+/// The telemetry frames of this spacecraft and this virtual channel, if they are given.
 #[derive(Clone, Copy, Drop)]
 pub struct TelemetryOf {
     pub scid: Option<u16>,
@@ -36,19 +36,19 @@ pub struct PacketsOf {
     pub apid: u16,
 }
 
-/// The control words that report on this virtual channel.
+/// The CLCWs that report on this virtual channel.
 #[derive(Clone, Copy, Drop)]
 pub struct WordsOf {
     pub vcid: u8,
 }
 
-/// What spells a frame, a control word or a packet names the spacecraft, the virtual channel and the
-/// application process that its fields say.
+/// The octets that spell a frame, a CLCW or a packet name the identifiers in its fields: the spacecraft,
+/// the virtual channel and the application process.
 pub fn law_of_named_channels()
     ensures { NamesItsFields }
 {}
 
-// The number that the first two octets spell, or fewer where there are fewer.
+// Returns the number that the first two octets spell, or fewer if there are fewer.
 #[inline(always)]
 fn first_number(octets: &[u8]) -> u16
     ensures { result ≡ number_of (take 2 octets.now) }
@@ -60,7 +60,7 @@ fn first_number(octets: &[u8]) -> u16
     }
 }
 
-// The number that the two octets after the first two spell.
+// Returns the number that the two octets after the first two spell.
 #[inline(always)]
 fn second_number(octets: &[u8]) -> u16
     ensures { result ≡ number_of (take 2 (drop 2 octets.now)) }
@@ -71,7 +71,7 @@ fn second_number(octets: &[u8]) -> u16
     first_number(&octets[2..])
 }
 
-// Each looks at the header only where something is asked.
+// Each of these reads the header only if an identifier is requested.
 #[inline(always)]
 fn is_frame_scid(asked: Option<u16>, octets: &[u8]) -> bool
     ensures { result ≡ is_asked asked (frame_scid octets.now) }

@@ -1,4 +1,4 @@
-// A receiver that begins at the first number that it hears.
+// A receiver that begins at the first number that arrives.
 
 ghost use Rattle.std.specs.Prelude.{◌≡◌, ℕ};
 ghost use Rattle.tc_frame.specs.Layout.{body_view};
@@ -19,7 +19,7 @@ use tc_frame::{Body, Check, Command, FrameLayout, TcFault, check_if, decode};
 pub trait Begins {
     ghost begun: { Self → ℕ → Self };
 
-    /// Has the receiver expect this number, and leaves all else.
+    /// Makes the receiver expect this number, and changes nothing else.
     fn begin(&mut self, vr: u8)
         ensures { self.new ≡ begun self.old vr };
 }
@@ -36,8 +36,8 @@ impl Begins for Farm {
     }
 }
 
-/// A listing of frames whose receiver begins at the number of the first Type-AD frame, or at that of a
-/// Set V(R) before it, where it is to.
+/// A listing of frames. On request, its receiver begins at the number of the first Type-AD frame, or
+/// of a Set V(R) before it.
 #[derive(Drop)]
 pub struct FromFirst<C> {
     listing: C,
@@ -51,14 +51,14 @@ impl<C> Model for FromFirst<C> {
 }
 
 impl<C: Begins> FromFirst<C> {
-    /// A listing that has seen no frame; `awaits` says whether its receiver begins so.
+    /// Creates a listing that has seen no frame. Its receiver begins so if `awaits` is true.
     pub fn new(listing: C, awaits: bool) -> Self
         ensures { result ≡ record { awaits = awaits; kept = listing } }
     {
         FromFirst { listing, awaits }
     }
 
-    // Has a receiver that awaits a number begin at that of the record, where it has one.
+    // Makes a receiver that awaits a number begin at the record's number, if the record has one.
     fn hear(&mut self, check: Check, octets: &[u8])
         ensures { self.new ≡ heard C.begun check self.old octets.now }
     {
@@ -72,7 +72,7 @@ impl<C: Begins> FromFirst<C> {
     }
 }
 
-// The number at which a receiver begins at this record.
+// Returns the number at which a receiver begins at this record.
 fn number_in(check: Check, octets: &[u8]) -> Option<u8>
     ensures { result ≡ number_in (frame_at check octets.now) }
 {

@@ -8,8 +8,8 @@ use std::alloc::Global;
 use std::marker::{Brand, PhantomData};
 use tm_link::TmFault;
 
-/// The length of the telemetry frames of a file, which is known once the words are read. It is for proofs
-/// alone: `Brand` stands for every length.
+/// The length of the telemetry frames of a file, which is known once the arguments are read. It is only
+/// for proofs: `Brand` represents every length.
 pub trait FrameLength {
     // The octets of the data field, 12 fewer than the frame's (CCSDS 132.0-B-3, 4.1).
     ghost payload: { ℕ };
@@ -20,9 +20,9 @@ pub trait FrameLength {
 #[derive(Drop)]
 pub struct FrameCutter<K: FrameLength> {
     octets: Vec<u8>,
-    // up to where the octets were handed out
+    // where the octets that are not returned yet begin
     start: usize,
-    // the octets of a frame
+    // the number of octets of a frame
     length: usize,
     channel: PhantomData<K>,
     ghost in_range: { start ≤ vec_len octets },
@@ -32,7 +32,7 @@ pub struct FrameCutter<K: FrameLength> {
 impl<K: FrameLength> FrameCutter<K> {
     ghost use Rattle.listings.specs.Layouts.{frames_held};
 
-    /// A cutter that holds nothing; it takes no memory until it is fed.
+    /// Creates a cutter that holds nothing. It takes no memory until it is fed.
     pub fn new(alloc: Global, length: usize) -> Self
         requires { length ≡ K.payload + 12 }
         ensures { frames_held result ≡ [] }
@@ -45,7 +45,7 @@ impl<K: FrameLength> FrameCutter<K> {
         }
     }
 
-    // Passes the next whole frame, and says where it begins.
+    // Passes the next whole frame, and returns where it begins.
     fn pass(&mut self) -> Option<usize>
         ensures octets { self.new.octets.items ≡ self.old.octets.items }
         ensures none { IsNone result → (self.new.start ≡ self.old.start)
@@ -115,7 +115,7 @@ impl<K: FrameLength> Cutter for FrameCutter<K> {
     ghost heads = { record { some_head = Prim.omega arith; has_head = Prim.search (rules, common_steps) } };
 }
 
-// It stands for each length in turn: a caller picks the length.
+// It represents each length in turn; a caller picks the length.
 impl FrameLength for Brand {
     ghost payload = { 0 };
 }

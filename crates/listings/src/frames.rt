@@ -30,7 +30,7 @@ impl Model for FrameListing {
     ghost view = { λ l. tt };
 }
 
-/// Appends the line of a record, and answers whether it is a frame.
+/// Appends the line of a record, and returns whether the record is a frame.
 #[inline(always)]
 fn push_frame(
     text: &mut Text,
@@ -120,7 +120,8 @@ fn put_command(room: &mut [u8], at: usize, command: Command) -> usize
     }
 }
 
-// Few frames are of Type-BD. Their line stands by itself, so that the others stay short enough to be inlined.
+// Appends the line of a Type-BD frame. Such frames are few, and a call of its own keeps the code for the
+// other frames short enough to be inlined.
 #[inline(never)]
 fn push_bypass(
     text: &mut Text,
@@ -146,7 +147,8 @@ fn push_bypass(
     push_segment(text, header, octets)
 }
 
-// Each kind of frame puts the whole line itself, so that none is asked for twice.
+// Appends the line of a frame. Each kind of frame puts the whole line itself, so that the kind is
+// not tested twice.
 #[inline(always)]
 fn push_line(text: &mut Text, index: &RecordNumber, frame: &TcFrame) -> Result<(), AllocError>
     requires { text.old.len + 128 ≤ vec_len text.old.octets }

@@ -1,8 +1,9 @@
-//! The lines that are written of streams of telecommand frames, telemetry frames, control words and space
-//! packets, and of what a receiver and an assembler make of telecommand frames.
+//! The lines for streams of telecommand frames, telemetry frames, CLCWs and space packets, and for what a
+//! receiver and an assembler do with telecommand frames.
 //!
-//! `list_stream` reads a `Source` in pieces, cuts what it reads into records by a `Cutter`, has a
-//! `Listing` append the lines of each, and writes them to a `Sink` before it reads the next piece.
+//! `list_stream` reads a `Source` in pieces, and a `Cutter` cuts what it reads into records. A
+//! `Listing` appends the lines of each record. `list_stream` writes these lines to a `Sink` before
+//! it reads the next piece.
 #![tactic(auto)]
 
 mod control_words;

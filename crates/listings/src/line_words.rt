@@ -9,7 +9,7 @@ ghost use Rattle.listings.specs.Words.{word_end, word_end_after};
 
 use std::alloc::AllocError;
 
-/// Whether a word is counted.
+/// Returns whether a word is counted.
 #[inline(always)]
 pub(crate) fn is_counted(word: &[u8]) -> bool
     ensures { result ≡ is_counted word.now }
@@ -21,7 +21,7 @@ pub(crate) fn is_counted(word: &[u8]) -> bool
     }
 }
 
-// Whether a word is a field whose value differs from record to record.
+// Returns whether a word is a field whose value differs from record to record.
 #[inline(always)]
 fn is_left_out(word: &[u8]) -> bool
     ensures { result ≡ list_any (starts_with nat_eq word.now) fields_left_out }
@@ -39,7 +39,7 @@ fn is_left_out(word: &[u8]) -> bool
     }
 }
 
-/// Whether an octet parts words, after a word that has begun.
+/// Returns whether an octet separates words, after a word that has begun.
 pub(crate) fn parts_words(word: &[u8], octet: u8) -> bool
     ensures { result ≡ parts_words word.now octet }
 {
@@ -56,14 +56,14 @@ fn is_spacecraft(word: &[u8]) -> bool
     word.starts_with(b"scid=") && !word.contains(&b' ')
 }
 
-/// Whether a word begins with a spacecraft, and so is written as its channel.
+/// Returns whether a word begins with a spacecraft, and so is written as its channel.
 pub(crate) fn has_channel(word: &[u8]) -> bool
     ensures { result ≡ starts_with nat_eq word.now (codes "scid=") }
 {
     word.starts_with(b"scid=")
 }
 
-/// Puts a word that begins with a spacecraft into this room, as it is written.
+/// Puts a word that begins with a spacecraft into this buffer, in the form in which it is written.
 pub(crate) fn write_channel(written: &mut Vec<u8>, word: &[u8]) -> Result<(), AllocError>
     requires { starts_with nat_eq word.now (codes "scid=") ≡ true }
     ensures { OnOk result (written.new.items ≡ shown word.now) }
@@ -73,7 +73,7 @@ pub(crate) fn write_channel(written: &mut Vec<u8>, word: &[u8]) -> Result<(), Al
     push_channel(written, &word[5..])
 }
 
-// Appends a spacecraft and, after a slash, what stands after ` vcid=`.
+// Appends a spacecraft and, after a slash, what follows ` vcid=`.
 fn push_channel(written: &mut Vec<u8>, channel: &[u8]) -> Result<(), AllocError>
     ensures { OnOk result (written.new.items ≡ written.old.items ++ with_slash channel.now) }
 {
@@ -89,7 +89,7 @@ fn push_channel(written: &mut Vec<u8>, channel: &[u8]) -> Result<(), AllocError>
     Ok(())
 }
 
-/// The place of the octet that ends the first word.
+/// Returns the place of the octet that ends the first word.
 #[inline(always)]
 pub(crate) fn end_of_word(text: &[u8]) -> Option<usize>
     ensures end { result ≡ word_end [] text.now }
@@ -108,7 +108,8 @@ pub(crate) fn end_of_word(text: &[u8]) -> Option<usize>
     None
 }
 
-/// The end of the words of a line that follow its first one and are counted, where that ends at this place.
+/// Returns the end of the words of a line that follow its first word and are counted. The first word ends
+/// at this place.
 pub(crate) fn end_of_phrase(text: &[u8], end: usize) -> usize
     requires end { word_end [] text.now ≡ Some end }
     requires there { end < length text.now }
@@ -129,7 +130,7 @@ pub(crate) fn end_of_phrase(text: &[u8], end: usize) -> usize
     at
 }
 
-// Whether the octet at this place ends the word before it.
+// Returns whether the octet at this place ends the word before it.
 #[inline(always)]
 fn is_end(text: &[u8], at: usize) -> bool
     requires { at < length text.now }
@@ -138,7 +139,7 @@ fn is_end(text: &[u8], at: usize) -> bool
     text[at] <= b' ' && parts_words(&text[..at], text[at])
 }
 
-// 8, where none of the first octets may end a word, and else 0.
+// Returns 8 if none of the first eight octets may end a word, else 0.
 #[inline(always)]
 fn first_eight(text: &[u8]) -> usize
     ensures within { result ≤ length text.now }
@@ -151,7 +152,7 @@ fn first_eight(text: &[u8]) -> usize
     }
 }
 
-// A place after this one up to which no octet may end a word.
+// Returns this place or a later one, up to which no octet may end a word.
 #[inline(never)]
 fn past_sixteens(text: &[u8], from: usize) -> usize
     requires { from ≤ length text.now }
@@ -168,7 +169,7 @@ fn past_sixteens(text: &[u8], from: usize) -> usize
     at
 }
 
-// Whether any of these octets may be a space or a line feed.
+// Returns whether any of these octets may be a space or a line feed.
 #[inline(always)]
 fn has_low(octets: &[u8]) -> bool
     ensures { result ≡ list_any (λ octet. nat_le octet 32) octets.now }

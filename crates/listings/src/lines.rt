@@ -23,7 +23,7 @@ pub fn push_invalid(
     push_name(text, name)
 }
 
-/// Appends the line of a record that was refused, and answers that it is not good.
+/// Appends the line of a refused record, and returns that the record is not good.
 pub fn push_refused(
     text: &mut Text,
     index: &RecordNumber,

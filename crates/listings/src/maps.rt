@@ -1,4 +1,4 @@
-// The packets out of TC frames, MAP by MAP, and what is dropped.
+// The packets from TC frames, MAP by MAP, and what is dropped.
 
 ghost use Rattle.std.specs.Prelude.{◌≡◌, ◌+◌, ◌≤◌, ◌++◌, ℕ, Bool, List, OnOk, IfOk, is_ok, codes, decimal, length, take};
 ghost use Rattle.tc_frame.specs.Layout.{body_view, frame_view, segment_view};
@@ -31,8 +31,8 @@ use tc_frame::{
     Body, Check, Command, FrameLayout, Segment, SegmentFlags, TcFault, check_if, decode,
 };
 
-/// Lists the packets out of frames: a receiver takes each frame, and one assembler, with all MAPs
-/// open, each segment that came in a Type-AD frame and was accepted.
+/// Lists the packets from frames. A receiver takes each frame. One assembler, with all MAPs open,
+/// takes each segment that arrived in a Type-AD frame and was accepted.
 #[derive(Drop)]
 pub struct MapListing {
     farm: Farm,
@@ -46,8 +46,8 @@ impl Model for MapListing {
 }
 
 impl MapListing {
-    /// A listing that has seen no frame: the lines of `tctool map`. Its receiver has this window width
-    /// and expects the number `vr` first.
+    /// Creates a listing that has seen no frame, for the lines of `tctool map`. Its receiver has this
+    /// window width and expects the number `vr` first.
     pub fn new(alloc: Global, width: u8, vr: u8, blocking: bool) -> Self
         requires { IsWidth width }
         ensures { result ≡ map_opened width vr blocking }
@@ -64,7 +64,7 @@ impl MapListing {
         }
     }
 
-    /// Gives a segment to the assembler, and appends what it drops and hands out.
+    /// Gives a segment to the assembler, and appends what the assembler drops and delivers.
     #[inline(always)]
     fn push_segment(
         &mut self,
@@ -89,14 +89,14 @@ impl MapListing {
         push_packets(text, segment.header.map, taken.packets.as_slice())
     }
 
-    /// Gives a frame to the receiver alone, whose buffer is free.
+    /// Gives a frame only to the receiver, whose buffer is free.
     pub(crate) fn pass(&mut self, body: &Body)
         ensures { self.new ≡ passed self.old (body_view body.now) }
     {
         give(&mut self.farm, body);
     }
 
-    /// Has the receiver expect this number.
+    /// Makes the receiver expect this number.
     pub(crate) fn begin(&mut self, vr: u8)
         ensures { self.new ≡ record self.old { receiver = record self.old.receiver { vr = vr } } }
     {
@@ -139,7 +139,7 @@ impl MapListing {
         }
     }
 
-    /// Takes a record, appends its lines, and answers whether it is a frame.
+    /// Takes a record, appends its lines, and returns whether the record is a frame.
     #[inline(always)]
     fn push_frame(
         &mut self,
@@ -216,7 +216,7 @@ fn push_cause(
     }
 }
 
-/// Appends the line of a packet that is handed out.
+/// Appends the line of a packet that is delivered.
 #[inline(always)]
 fn push_packet(text: &mut Text, map: u8, packet: &[u8]) -> Result<(), AllocError>
     ensures { Appends result text.old text.new (on_map_line (codes "packet ") map packet.now) }
@@ -224,7 +224,7 @@ fn push_packet(text: &mut Text, map: u8, packet: &[u8]) -> Result<(), AllocError
     push_on_map(text, b"packet ", map, packet)
 }
 
-/// Appends the line of each packet that is handed out.
+/// Appends the line of each packet that is delivered.
 #[inline(always)]
 fn push_packets(text: &mut Text, map: u8, packets: &[Vec<u8>]) -> Result<(), AllocError>
     ensures { Appends result text.old text.new (map_packets_text map (octets_of packets.now)) }
@@ -235,7 +235,7 @@ fn push_packets(text: &mut Text, map: u8, packets: &[Vec<u8>]) -> Result<(), All
     Ok(())
 }
 
-// Whether the segment of a Type-BD frame is one packet, whole.
+// Returns whether the segment of a Type-BD frame is exactly one whole packet.
 fn is_bypass(segment: Segment) -> bool
     ensures { result ≡ is_bypass (segment_view segment.entry) }
 {
@@ -255,8 +255,8 @@ fn push_bypass(text: &mut Text, index: &RecordNumber, segment: Segment) -> Resul
     }
 }
 
-/// Whatever the records are, the packets listed on a MAP are those that the accepted segments
-/// of all of them give on it, in their order.
+/// The packets listed on a MAP are those that the accepted segments of all records give on it, in their
+/// order, whatever the records are.
 pub fn law_of_listed_packets()
     ensures { (check : Checking) (width vr : ℕ) (blocking : Bool) (m : ℕ) (records : List (List ℕ))
         → listed_on check m (map_opened width vr blocking) records

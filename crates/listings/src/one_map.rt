@@ -19,7 +19,7 @@ use std::alloc::AllocError;
 use std::marker::Model;
 use tc_frame::{Body, Check, FrameLayout, TcFault, check_if, decode};
 
-/// Lists the packets out of frames, of one MAP where it is given. The receiver takes the frames of all.
+/// Lists the packets from frames, of one MAP if it is given. The receiver takes the frames of all MAPs.
 #[derive(Drop)]
 pub struct OneMap {
     packets: MapListing,
@@ -33,14 +33,14 @@ impl Model for OneMap {
 }
 
 impl OneMap {
-    /// A listing of what this one lists of the MAP, or of all.
+    /// Creates a listing of what `packets` lists for the MAP, or for all MAPs.
     pub fn new(packets: MapListing, map: Option<u8>) -> Self
         ensures { result ≡ record { map = map; packets = packets } }
     {
         OneMap { packets, map }
     }
 
-    // Whether a frame has no segment of another MAP.
+    // Returns whether a frame has no segment of another MAP.
     #[inline(always)]
     fn is_on(&self, body: &Body) -> bool
         ensures { result ≡ is_on self.now.map (body_view body.now) }
@@ -52,7 +52,7 @@ impl OneMap {
         }
     }
 
-    /// Takes a record, appends its lines, and answers whether it is a frame.
+    /// Takes a record, appends its lines, and returns whether the record is a frame.
     fn push_frame(
         &mut self,
         text: &mut Text,
@@ -79,7 +79,7 @@ impl OneMap {
     }
 }
 
-// Whether a MAP is the one that is asked for, where one is.
+// Returns whether a MAP is the requested one; without a request each MAP is.
 #[inline(always)]
 fn is_asked(asked: Option<u8>, map: u8) -> bool
     ensures { result ≡ is_asked asked map }
@@ -90,7 +90,7 @@ fn is_asked(asked: Option<u8>, map: u8) -> bool
     }
 }
 
-/// What is listed of a MAP are the lines that a listing of all MAPs has of it, whatever comes on the others.
+/// The listing of a MAP has the lines that a listing of all MAPs has for it, whatever arrives on the others.
 pub fn law_of_one_map()
     ensures { ListsAsAll }
 {}

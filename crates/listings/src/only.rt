@@ -11,18 +11,18 @@ use crate::text::Text;
 use std::alloc::AllocError;
 use std::marker::{Brand, Model, PhantomData};
 
-/// The records that are listed, which are known once the words are read. It is for proofs alone: `Brand`
-/// stands for every choice.
+/// The records that are listed, which are known once the arguments are read. It is only for proofs:
+/// `Brand` represents every choice.
 pub trait Kept {
     ghost keeps: { List ℕ → Bool };
 }
 
-// It stands for each choice in turn: a caller picks it.
+// It represents each choice in turn; a caller picks one.
 impl Kept for Brand {
     ghost keeps = { λ octets. true };
 }
 
-/// Lists the records that a filter keeps. The listing below it sees no other.
+/// Lists the records that a filter keeps. The listing inside it sees no other record.
 #[derive(Drop)]
 pub struct Only<C, F: Filter, K: Kept> {
     listing: C,
@@ -39,7 +39,7 @@ impl<C, F: Filter, K: Kept> Model for Only<C, F, K> {
 }
 
 impl<C, F: Filter, K: Kept> Only<C, F, K> {
-    /// A listing of the records that this filter keeps.
+    /// Creates a listing of the records that this filter keeps.
     pub fn new(listing: C, filter: F) -> Self
         requires { (octets : List ℕ) → F.keeps filter octets ≡ K.keeps octets }
         ensures { result ≡ listing }

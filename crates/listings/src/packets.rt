@@ -1,4 +1,5 @@
-// The line of each space packet: its fields, and how many of its application process are missing before it.
+// The line of each space packet: its fields, and how many packets of its application process are missing
+// before it.
 
 ghost use Rattle.std.specs.Prelude.{◌≡◌, ◌+◌, ◌≤◌, ◌++◌, codes, decimal, length, take, IfOk, is_ok, get_or, ℕ, List, Option};
 ghost use Rattle.space_packet.specs.Counters.{gap_after};
@@ -17,7 +18,8 @@ use space_packet::{GapCheck, Packet, PacketFault, PacketKind, Packets, decode};
 use std::alloc::AllocError;
 use std::marker::Model;
 
-/// Lists the fields of each packet, and how many of its application process are missing before it.
+/// Lists the fields of each packet, and how many packets of its application process are missing
+/// before it.
 #[derive(Drop)]
 pub struct PacketListing {
     gaps: GapCheck,
@@ -30,7 +32,7 @@ impl Model for PacketListing {
 }
 
 impl PacketListing {
-    /// A listing that has seen no packet: the lines of `tctool packets`.
+    /// Creates a listing that has seen no packet, for the lines of `tctool packets`.
     #[tactic(auto, unfolding(crate::specs::PacketLines::none_seen))]
     pub fn new() -> Self
         ensures { result ≡ none_seen }

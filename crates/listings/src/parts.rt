@@ -1,4 +1,4 @@
-// Parts of a line, each put in place after the one before it. Each call answers the place after what it put.
+// Parts of a line, each put directly after the one before it. Each call returns the place after what it put.
 
 ghost use Rattle.std.specs.Prelude.{◌≡◌, ◌+◌, ◌*◌, ◌<◌, ◌≤◌, ◌%◌, ◌++◌, [], ◌∷◌};
 ghost use Rattle.std.specs.Prelude.{◌/◌, bit_and, codes, decimal, drop, length, map, take, slice_index};
@@ -40,7 +40,7 @@ pub fn put_first<const N: usize>(room: &mut [u8], at: usize, octets: &[u8], coun
     at + count
 }
 
-/// Puts a word of N octets to twice as many: the first N, and the last N over them.
+/// Puts a word of N octets to twice as many: its first N, and its last N over them.
 #[inline(always)]
 pub fn put_word<const N: usize>(room: &mut [u8], at: usize, word: &[u8]) -> usize
     requires room { at + length word.now ≤ length room.old }
@@ -100,7 +100,7 @@ static OCTETS: [u8; 1024] = [
     50, 53, 48, 3, 50, 53, 49, 3, 50, 53, 50, 3, 50, 53, 51, 3, 50, 53, 52, 3, 50, 53, 53, 3,
 ];
 
-// The entry of an octet, and all after it.
+// Returns the entry of an octet, and all after it.
 #[inline(always)]
 fn entry_of(octet: u8) -> &'static [u8]
     ensures room { 4 ≤ length result.now }
@@ -173,7 +173,7 @@ pub fn put_flag<const N: usize>(room: &mut [u8], at: usize, word: &[u8], flag: b
     put_word::<1>(room, next, &[digit_of_flag(flag)])
 }
 
-/// Puts a word of three octets, which stand before a fourth, and a flag as 0 or 1 after it.
+/// Puts a word of three octets, the first of these four, and a flag as 0 or 1 after it.
 #[inline(always)]
 pub fn put_short_flag(room: &mut [u8], at: usize, word: &[u8; 4], flag: bool) -> usize
     requires { at + 4 ≤ length room.old }
@@ -185,7 +185,7 @@ pub fn put_short_flag(room: &mut [u8], at: usize, word: &[u8; 4], flag: bool) ->
     put_word::<1>(room, next, &[digit_of_flag(flag)])
 }
 
-/// Puts a word of three octets, which stand before a fourth, and the decimal digits of an octet after it.
+/// Puts a word of three octets, the first of these four, and the decimal digits of an octet after it.
 #[inline(always)]
 pub fn put_short_field(room: &mut [u8], at: usize, word: &[u8; 4], octet: u8) -> usize
     requires { at + 7 ≤ length room.old }
@@ -210,7 +210,7 @@ pub fn put_number(room: &mut [u8], at: usize, number: u64) -> usize
     put_long(room, at, number)
 }
 
-// Puts at most eight decimal digits. It stands by itself, so that a line stays short enough to be inlined.
+// Puts at most eight decimal digits. A call of its own keeps a line short enough to be inlined.
 #[inline(never)]
 #[tactic(auto, using(crate::proofs::Digits::four_more))]
 fn put_eight(room: &mut [u8], at: usize, number: u32) -> usize
@@ -300,7 +300,7 @@ pub fn put_digits(room: &mut [u8], at: usize, octets: &[u8]) -> usize
 
 const UPPER: [u8; 16] = *b"0123456789ABCDEF";
 
-// The first digit of each octet. Lanes below 16 are looked up in the table.
+// Returns the first digit of each octet. Lanes below 16 are looked up in the table.
 #[inline(always)]
 fn high_digits(octets: u8x16) -> u8x16
     ensures { result ≡ map (λ x. slice_index upper_digits (x / 16)) octets }
@@ -308,7 +308,7 @@ fn high_digits(octets: u8x16) -> u8x16
     u8x16::from_array(UPPER).swizzle_dyn(octets >> u8x16::splat(4))
 }
 
-// The second digit of each octet.
+// Returns the second digit of each octet.
 #[inline(always)]
 fn low_digits(octets: u8x16) -> u8x16
     ensures { result ≡ map (λ x. slice_index upper_digits (x % 16)) octets }
@@ -316,7 +316,7 @@ fn low_digits(octets: u8x16) -> u8x16
     u8x16::from_array(UPPER).swizzle_dyn(octets & u8x16::splat(15))
 }
 
-// Lanes from 16 on are those of the second digits.
+// Returns the digits of sixteen octets. Lanes from 16 on are those of the second digits.
 #[inline(always)]
 fn digits_of_sixteen(octets: u8x16) -> u8x32
     ensures { result ≡ encode_upper octets }
@@ -355,7 +355,8 @@ fn write_digits(digits: &mut [u8], octets: &[u8])
     }
 }
 
-// The octets after the last whole sixteen are written with those before them, some of which are written again.
+// Writes the digits of all octets. The octets after the last whole sixteen are written with some before them,
+// which are then written twice.
 #[inline(always)]
 fn write_many(digits: &mut [u8], octets: &[u8])
     requires octets { 16 ≤ length octets.now }

@@ -1,5 +1,5 @@
-// Phrases: words that follow each other in a line. Most lines are made of a few phrases that come again and
-// again, and a text is counted by them.
+// Phrases: words that follow each other in a line. Most lines consist of a few phrases that recur, and a
+// text is counted by its phrases.
 
 ghost use Rattle.std.specs.Prelude.{◌≡◌, ◌<◌, ◌≤◌, List, ℕ, [], length, drop, map, take};
 ghost use Rattle.std.specs.Prelude.{None, Ok, OnOk, IfOk, IfSome};
@@ -14,8 +14,8 @@ use crate::word_table::count_written;
 use std::alloc::{AllocError, Global};
 use std::collections::BTreeMap;
 
-/// At most 64 octets of words that follow each other, with what ends each, and how often they have come since
-/// they were last put in the table.
+/// At most 64 octets of words that follow each other, with what ends each word. Also how often they have come
+/// since they were last put in the table.
 #[derive(Clone, Copy)]
 pub struct Phrase {
     octets: [u8; 64],
@@ -23,14 +23,14 @@ pub struct Phrase {
     times: u64,
 }
 
-/// None, at each place.
+/// No phrase, at each place.
 pub(crate) const NO_PHRASES: [Phrase; 256] = [Phrase {
     octets: [0; 64],
     len: 0,
     times: 0,
 }; 256];
 
-// Words that have come once.
+// Returns the phrase of words that have come once.
 fn phrase_of(words: &[u8]) -> Phrase
     requires { length words.now ≤ 64 }
     ensures words { phrase_words result ≡ words.now }
@@ -46,7 +46,7 @@ fn phrase_of(words: &[u8]) -> Phrase
 }
 
 impl Phrase {
-    // The words.
+    // Returns the words.
     #[inline(always)]
     fn words(&self) -> &[u8]
         ensures { result.now ≡ phrase_words self.now }
@@ -55,7 +55,8 @@ impl Phrase {
     }
 }
 
-// Where a phrase of these octets has its place: phrases differ in the values of their fields, near the end.
+// Returns the place of a phrase of these octets. Phrases differ in the values of their fields, near the
+// end.
 #[inline(always)]
 fn place_of(octets: &[u8]) -> usize
     ensures { result < 256 }
@@ -80,7 +81,7 @@ fn place_of(octets: &[u8]) -> usize
     }
 }
 
-// Counts a phrase so many times more in the table.
+// Counts a phrase this many times more in the table.
 fn count_phrase(
     alloc: Global,
     table: &mut BTreeMap<Vec<u8>, u64>,
@@ -110,8 +111,8 @@ fn count_recent(
     count_phrase(alloc, table, phrase.words(), phrase.times)
 }
 
-// The place of the phrase that a text begins with. It is found by as many octets as the longest phrase had that
-// began with this octet; none where there was no such phrase.
+// Returns the place of the phrase that a text begins with, or none if no phrase has begun with its first
+// octet. The place is found from as many octets as the longest such phrase has.
 #[inline(always)]
 fn place_in(lengths: &[usize; 128], text: &[u8]) -> Option<usize>
     ensures { IfSome result (λ place. place < 256) }
@@ -123,7 +124,7 @@ fn place_in(lengths: &[usize; 128], text: &[u8]) -> Option<usize>
     Some(place_of(&text[..length.min(text.len())]))
 }
 
-// Where a text begins with the phrase that has this place, counts that once more, and answers its length.
+// If a text begins with the phrase at this place, counts that phrase once more, and returns its length.
 #[inline(always)]
 fn count_again(
     phrases: &mut [Phrase; 256],
@@ -177,7 +178,7 @@ fn put(
     Ok(())
 }
 
-/// Counts the words at the beginning of a text, and answers how many octets they are; none where no word
+/// Counts the words at the beginning of a text, and returns how many octets they have; none if no word
 /// ends.
 #[inline(always)]
 pub(crate) fn take_first(

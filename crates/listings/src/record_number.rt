@@ -1,4 +1,4 @@
-// The number of a record, with the digits that are written of it.
+// The number of a record, with its written digits.
 
 ghost use Rattle.std.specs.Prelude.{◌≡◌, ◌+◌, ◌-◌, ◌*◌, ◌<◌, ◌≤◌, ◌^◌, ◌++◌, ℕ, decimal, length, take};
 ghost use Rattle.listings.specs.Text.{leading_digits};
@@ -6,13 +6,13 @@ ghost use Rattle.listings.specs.Text.{leading_digits};
 use crate::parts::{put_all, put_first, put_number, put_word};
 use std::marker::Model;
 
-/// The number of a record, with its decimal digits: those of the next number differ in the last one, and only
-/// each tenth number is put anew.
+/// The number of a record, with its decimal digits. The next number mostly differs only in the last digit;
+/// all digits are put again only for each tenth number.
 #[derive(Drop)]
 pub struct RecordNumber {
     tens: u64,
-    // The last digit stands by itself. A processor would wait if it read eight octets of which one was stored
-    // just before.
+    // The last digit is stored separately. A processor would wait if it read eight octets just after one of
+    // them was stored.
     last: u8,
     digits: [u8; 24],
     upper: usize,
@@ -28,7 +28,7 @@ impl Model for RecordNumber {
 }
 
 impl RecordNumber {
-    /// The number 0, of no record.
+    /// Creates the number 0, which no record has.
     pub fn new() -> Self
         ensures { result ≡ 0 }
     {
@@ -40,7 +40,7 @@ impl RecordNumber {
         }
     }
 
-    /// Goes on to the next number.
+    /// Advances to the next number.
     #[inline(always)]
     pub fn step(&mut self)
         requires { self.old + 1 < 2 ^ 64 }
@@ -55,7 +55,7 @@ impl RecordNumber {
         }
     }
 
-    /// The number after this one.
+    /// Returns the number after this one.
     pub fn following(&self) -> Self
         requires { self.now + 1 < 2 ^ 64 }
         ensures { result ≡ self.now + 1 }
@@ -70,7 +70,7 @@ impl RecordNumber {
         next
     }
 
-    /// The number.
+    /// Returns the number.
     pub fn get(&self) -> u64
         ensures { result ≡ self.now }
     {

@@ -13,7 +13,7 @@ use std::alloc::AllocError;
 use std::marker::Model;
 use tc_frame::{Check, Checked, TcFault, decode};
 
-/// Lists the frames that are refused, of frames that end with their FECF. Nothing is kept between two.
+/// Lists the refused frames among frames that end with their FECF. Nothing is kept between two frames.
 #[derive(Drop)]
 pub struct RefusalListing;
 

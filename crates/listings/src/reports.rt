@@ -1,4 +1,4 @@
-// The line of each control word: what a receiver reports by it.
+// The line of each CLCW: what a receiver reports in it.
 
 ghost use Rattle.std.specs.Prelude.{◌≡◌, ◌+◌, ◌≤◌, ◌++◌, codes, decimal, length, take, IfOk, is_ok};
 ghost use Rattle.clcw.specs.Decoding.{clcw_at};
@@ -18,7 +18,7 @@ use octets::Splitter;
 use std::alloc::AllocError;
 use std::marker::Model;
 
-/// Lists what each control word reports. Nothing is kept between two.
+/// Lists what each CLCW reports. Nothing is kept between two CLCWs.
 #[derive(Drop)]
 pub struct ReportListing;
 
@@ -101,7 +101,7 @@ fn put_invalid(room: &mut [u8], at: usize, number: u8) -> usize
     put_word::<1>(room, next, b" ")
 }
 
-/// Appends the line of the control word in a telemetry frame, or why its field is none.
+/// Appends the line of the CLCW in a telemetry frame, or why its field is not a valid CLCW.
 #[inline(always)]
 pub fn push_report(text: &mut Text, field: [u8; 4]) -> Result<(), AllocError>
     ensures { Appends result text.old text.new (field_line (clcw_at field)) }

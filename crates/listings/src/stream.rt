@@ -1,4 +1,4 @@
-// Reads a stream in pieces, and writes the lines that a listing makes of its records.
+// Reads a stream in pieces, and writes the lines that a listing has for its records.
 
 ghost use Rattle.std.specs.Prelude.{◌≡◌, ◌⊎◌, None, ◌+◌, ◌^◌, ◌<◌, ◌≤◌, ◌&&◌, ◌++◌, [], length, Ok, OnOk, IfOk, IfErr};
 ghost use Rattle.listings.specs.Layouts.{first_by, rest_by, IsRefused};
@@ -44,7 +44,7 @@ impl Progress {
 /// What was listed: how many whole records and octets, and whether all was good.
 #[derive(Clone, Copy, Debug, Drop, PartialEq, Eq)]
 pub struct Summary {
-    /// The records whose last octet came.
+    /// The records whose last octet arrived.
     pub records: u64,
     /// All octets that were read.
     pub octets: u64,
@@ -52,8 +52,8 @@ pub struct Summary {
     pub all_good: bool,
 }
 
-/// Takes all whole records that the cutter holds, and answers the fault of the octets after them
-/// where they are refused.
+/// Takes all whole records that the cutter holds, and returns the fault of the octets after them if
+/// they are refused.
 fn list_records<S: Cutter, C: Listing<S>>(
     cutter: &mut S,
     listing: &mut C,
@@ -83,7 +83,7 @@ fn list_records<S: Cutter, C: Listing<S>>(
     Ok(None)
 }
 
-/// Writes a text whole, and answers this.
+/// Writes a whole text, and returns this answer.
 fn put<W: Sink, T: Copy>(writer: &mut W, text: &Text, answer: T) -> Result<T, StreamFault>
     ensures ok { IfOk result (λ answered. (answered ≡ answer)
         × (W.taken_octets writer.new ≡ W.taken_octets writer.old ++ written text.now)) }
@@ -143,7 +143,7 @@ impl<S: Cutter, C: Listing<S>, W: Sink> Taker<C, W> for Lister<S> {
         put(writer, &self.text, Some(all))
     }
 
-    // Writes the line of what is left, where anything is.
+    // Writes the line of what is left, if anything is.
     fn end(&mut self, _: &mut C, writer: &mut W, octets: u64) -> Result<Summary, StreamFault> {
         let all_good = self.progress.all_good;
         let Err(fault) = self.cutter.finish() else {
@@ -160,13 +160,12 @@ impl<S: Cutter, C: Listing<S>, W: Sink> Taker<C, W> for Lister<S> {
     ghost of_nothing = { λ l c text. tt };
 }
 
-/// Reads a stream in pieces, and writes the lines of each piece before it reads the next. It answers
-/// how many whole records and octets there were, and whether every record was good and nothing was left after
-/// them.
+/// Reads a stream in pieces, and writes the lines of each piece before it reads the next. It returns how many
+/// whole records and octets there were, and whether every record was good and nothing was left after them.
 ///
-/// Where a record declares a length that none can have, its line is the last and nothing more is
-/// read. The fault is `Read` or `Write` where that device failed, `Memory` where none was left, and
-/// `TooLong` past `MOST_OCTETS` octets; what is written by then is a beginning of the lines.
+/// If a record declares an impossible length, its line is the last and nothing more is read. The
+/// fault is `Read` or `Write` if that device failed, `Memory` if memory ran out, and `TooLong`
+/// beyond `MOST_OCTETS` octets. What is written by then is a beginning of the lines.
 /// Faults: Read, Write, Memory, TooLong. Memory: yes. Cost: the number of octets read and written.
 pub fn list_stream<S: Cutter + Drop, C: Listing<S> + Drop, R: Source, W: Sink>(
     alloc: Global,

@@ -1,4 +1,5 @@
-// The line of each TM frame: its fields, how many are missing before it, and the packets that it finishes.
+// The line of each TM frame: its fields, how many frames are missing before it, and the packets that it
+// finishes.
 
 ghost use Rattle.std.specs.Prelude.{◌≡◌, ◌+◌, ◌≤◌, ◌++◌, IfOk, codes, length, take};
 ghost use Rattle.listings.specs.Text.{Appends};
@@ -18,8 +19,8 @@ use std::alloc::{AllocError, Global};
 use std::marker::{Model, PhantomData};
 use tm_link::{Extractor, Gap, Pointer, TmFault, TmFrame, decode};
 
-/// Lists the fields of each frame, what its control word reports, where that is asked for, and the packets
-/// that are finished with it. One extractor takes all frames.
+/// Lists the fields of each frame, on request what its CLCW reports, and the packets that it finishes. One
+/// extractor takes all frames.
 #[derive(Drop)]
 pub struct TelemetryListing<K: FrameLength> {
     frame_length: u16,
@@ -38,7 +39,7 @@ impl<K: FrameLength> Model for TelemetryListing<K> {
 }
 
 impl<K: FrameLength> TelemetryListing<K> {
-    /// A listing that has seen no frame; `reports` says whether control words have a line. Its extractor
+    /// Creates a listing that has seen no frame. CLCWs have a line if `reports` is true. Its extractor
     /// reserves the octets of the longest packet.
     /// Faults: AllocError. Memory: yes.
     pub fn new(alloc: Global, frame_length: u16, reports: bool) -> Result<Self, AllocError>
@@ -148,7 +149,7 @@ fn put_frame(room: &mut [u8], at: usize, index: &RecordNumber, frame: &TmFrame, 
     put_gap(room, next, gap)
 }
 
-/// Appends the line of a frame's control word, where it has one.
+/// Appends the line of a frame's CLCW, if `reports` is true.
 fn push_report_if(text: &mut Text, reports: bool, frame: &TmFrame) -> Result<(), AllocError>
     ensures { Appends result text.old text.new (report_text reports (frame_view frame.now)) }
 {

@@ -5,7 +5,7 @@ ghost use Rattle.std.specs.Prelude.{◌≡◌, ◌+◌, ◌*◌, ◌≤◌, [], 
 use crate::parts::put_all;
 use std::alloc::{AllocError, Global};
 
-/// A text whose room is filled ahead of it, so that a line is written where it stands.
+/// A text whose buffer is filled ahead of it, so that each line is written in place.
 #[derive(Drop)]
 pub struct Text {
     pub(crate) octets: Vec<u8>,
@@ -16,7 +16,7 @@ pub struct Text {
 impl Text {
     ghost use Rattle.listings.specs.Text.{written, Appends};
 
-    /// A text with nothing in it; it takes no memory.
+    /// Creates an empty text. It takes no memory.
     pub fn new(alloc: Global) -> Self
         ensures { written result ≡ [] }
     {
@@ -26,14 +26,14 @@ impl Text {
         }
     }
 
-    /// What was written.
+    /// Returns what was written.
     pub fn as_bytes(&self) -> &[u8]
         ensures { result.now ≡ written self.now }
     {
         &self.octets[..self.len]
     }
 
-    /// Forgets what was written, and keeps the room.
+    /// Discards what was written, and keeps the memory.
     pub fn clear(&mut self)
         ensures { written self.new ≡ [] }
     {
@@ -50,7 +50,7 @@ impl Text {
         Ok(())
     }
 
-    /// Makes room for this many octets more.
+    /// Makes room for this many more octets.
     #[inline(always)]
     pub(crate) fn make_room(&mut self, count: usize) -> Result<(), AllocError>
         ensures written { written self.new ≡ written self.old }

@@ -16,8 +16,8 @@ use std::collections::BTreeMap;
 use std::io;
 use streams::{Call, DeviceLog, Sink};
 
-/// How often each word has come; the phrases whose words are not in this table, those that came lately apart;
-/// and the word that has begun.
+/// How often each word has come, the phrases whose words are not in that table, and the word that has begun.
+/// Recent phrases are kept apart.
 #[derive(Drop)]
 pub struct Tally {
     words: BTreeMap<Vec<u8>, u64>,
@@ -26,7 +26,7 @@ pub struct Tally {
     // For each first octet the length of the longest phrase that began with it.
     lengths: [usize; 128],
     word: Vec<u8>,
-    // Room for a word that is written otherwise.
+    // A buffer for a word that is written in another form.
     written: Vec<u8>,
 }
 
@@ -97,8 +97,8 @@ impl Tally {
     }
 }
 
-/// Counts the words of the lines that it takes, and keeps each different phrase once. Its writes take all,
-/// and fail where memory is refused.
+/// Counts the words of the lines that it takes, and keeps each different phrase once. Its writes take all
+/// octets, and fail if memory runs out.
 #[derive(Drop)]
 pub struct Totals {
     alloc: Global,
@@ -109,7 +109,7 @@ pub struct Totals {
 }
 
 impl Totals {
-    /// Totals of no line yet; it takes no memory.
+    /// Creates the totals of no line. They take no memory.
     pub fn new(alloc: Global) -> Self
         ensures { (result.log.octets ≡ []) × (result.log.failures ≡ 0) }
     {
@@ -127,7 +127,8 @@ impl Totals {
         }
     }
 
-    /// The totals of so many records and octets, whose lines it took, where no write failed.
+    /// Returns the totals of this many records and octets and of the lines that it took, if no
+    /// write failed.
     /// Faults: AllocError. Memory: yes. Cost: the different words and phrases.
     pub fn lines(self, records: u64, octets: u64) -> Result<Text, AllocError>
         ensures { self.log.failures ≡ 0 →

@@ -11,7 +11,7 @@ use crate::line_words::{end_of_word, has_channel, is_counted, write_channel};
 use std::alloc::{AllocError, Global};
 use std::collections::BTreeMap;
 
-// Counts a word that is in the table so many times more, and answers whether it is.
+// Counts a word this many times more if it is in the table, and returns whether it is.
 fn count_known(
     table: &mut BTreeMap<Vec<u8>, u64>,
     word: &[u8],
@@ -35,7 +35,7 @@ fn count_known(
     }
 }
 
-/// Counts a word so many times, as it is written.
+/// Counts a word this many times, in the form in which it is written.
 pub(crate) fn count_written(
     alloc: Global,
     table: &mut BTreeMap<Vec<u8>, u64>,
@@ -55,7 +55,7 @@ pub(crate) fn count_written(
     Ok(())
 }
 
-// Counts a word so many times.
+// Counts a word this many times.
 fn count_word(
     alloc: Global,
     table: &mut BTreeMap<Vec<u8>, u64>,
@@ -74,7 +74,7 @@ fn count_word(
     count_written(alloc, table, written.as_slice(), times)
 }
 
-/// Counts a word that has ended so many times, where it is counted.
+/// Counts a word that has ended this many times, if it is one that is counted.
 pub(crate) fn count_ended(
     alloc: Global,
     table: &mut BTreeMap<Vec<u8>, u64>,
@@ -94,7 +94,7 @@ pub(crate) fn count_ended(
     count_word(alloc, table, written, word, times)
 }
 
-/// Counts each word that ends in a text so many times.
+/// Counts each word that ends in a text this many times.
 pub(crate) fn count_words(
     alloc: Global,
     table: &mut BTreeMap<Vec<u8>, u64>,

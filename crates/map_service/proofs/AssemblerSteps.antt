@@ -1,4 +1,4 @@
--- What one more segment adds to what a list of segments of one MAP gives.
+-- What one more segment adds to what is assembled from a list of segments of one MAP.
 use Rattle.std.proofs.Common.{◌≡◌, ℕ, List, [], ◌∷◌, ◌++◌, Option, Some, None, refl, sym, ap, ◌∙◌}
 use Rattle.std.proofs.Common.{append_assoc, arith, Bool, true, false, eqb, ◌≢◌, ◌≤◌, length, not}
 use Rattle.std.proofs.Common.{cond, ◌&&◌, set, length-append, inl, inr, get_or}
@@ -28,7 +28,7 @@ use Rattle.map_service.specs.Exactness.{HasPartsOf, IsTakenExactly}
 use Rattle.map_service.specs.declared.assembler.Change.{Change}
 use Rattle.map_service.specs.Prepared.{part_after}
 
--- ---- segments that are all continuing end no block, give no packet and begin no part
+-- ---- segments that are all continuing end no block, complete no packet and begin no part
 
 pub record AllGoOn (limits : Limits) (segments : List SegmentView) : Type 0 where
   pub unended : up_to_last segments ≡ None
@@ -53,7 +53,7 @@ all_go_on limits (s ∷ segments) joined h =
 
 -- ---- the joined data up to a last segment
 
--- after it, where these are the data up to a last segment, and up to the end, before it
+-- after one more segment, if these are the data up to a last segment, and up to the end, before it
 abbrev pub ended : SegmentFlags → List ℕ → Option (List ℕ) → Option (List ℕ) → Option (List ℕ)
 ended flags octets (Some joined) all = Some joined
 ended Last octets None (Some joined) = Some (joined ++ octets)
@@ -113,7 +113,7 @@ ending_part-push (x ∷ segments) s =
 
 -- ---- the packets
 
--- those that the last segment adds, where this part stood open before it
+-- the packets that the last segment adds, if this part was open before it
 abbrev pub packets_behind : Limits → SegmentFlags → List ℕ → Option (List ℕ) → List (List ℕ)
 packets_behind limits Alone octets part = packets_of limits octets
 packets_behind limits First octets part = []
@@ -156,7 +156,7 @@ blocks_packets-push limits (x ∷ segments) s =
     (ending_part segments) (blocks_packets limits segments)
     (λ j e. let known = all_go_on limits segments j e in (known.unended, known.given, known.unbegun)))
 
--- ---- what a beginning of a list of segments gives
+-- ---- what is assembled from a beginning of a list of segments
 
 blocks_begin : (limits : Limits) (xs ys : List SegmentView)
     → (more : List (List ℕ)) × (blocks_packets limits (xs ++ ys) ≡ blocks_packets limits xs ++ more)
@@ -184,7 +184,7 @@ pub assembled_begins : (limits : Limits) (m : ℕ) (xs ys : List SegmentView)
     → (more : List (List ℕ)) × (assembled limits m (xs ++ ys) ≡ assembled limits m xs ++ more)
 assembled_begins limits m xs ys = begins_by limits m xs ys _ refl
 
--- The assembler's step at a segment gives exactly what the segment adds.
+-- The assembler's step at a segment is exactly what the segment adds.
 
 -- ---- octets judged as a whole
 
@@ -247,7 +247,7 @@ part_outcome-packets : (limits : Limits) (earlier : Option Dropped) (octets : Li
 part_outcome-packets limits earlier octets =
     cond_both (is_too_long limits octets) (drop_outcome TooLong) _ (λ o. o.packets ≡ []) (λ t. refl) (λ t. refl)
 
--- ---- octets that are too long stay so
+-- ---- octets that are too long remain too long
 
 too_long_more : (limits : Limits) (part octets : List ℕ) → is_too_long limits part ≡ true
     → is_too_long limits (part ++ octets) ≡ true
@@ -335,7 +335,7 @@ of_map-other segments s m ne =
     (of_one m s false (ne_eqb _ _ (λ (e : s.header.map ≡ m). ne (sym e))))
     ∙ append-nil (of_map m segments)
 
--- ---- what the whole list gives then
+-- ---- what is then assembled from the whole list
 
 pub assembled-push : (limits : Limits) (segments : List SegmentView) (s : SegmentView) (opened : Bool)
     → is_open limits s.header.map ≡ opened
@@ -397,7 +397,7 @@ parts_kept a segments s count has = λ m.
           ∙ sym (open_part-other a.limits segments s m ne)
     ]
 
--- the step at a segment, for each list of segments that led there
+-- the step at a segment, after any list of segments
 pub taken_exactly : (a : AssemblerState) (segments : List SegmentView) (s : SegmentView) → length a.parts ≡ 64
     → HasPartsOf a segments
     → IsTakenExactly (after_step a s) segments s (step_at a s).packets
@@ -434,7 +434,7 @@ lone_cell limits First part octets packet e = absurd cc
 lone_cell limits Continuing part octets packet e = absurd cc
 lone_cell limits Last part octets packet e = absurd cc
 
--- a segment that is one packet, with no part open, changes nothing
+-- a segment that is one packet changes nothing if no part is open
 pub lone_stays : (a : AssemblerState) (s : SegmentView) (packet : List ℕ)
     → lone_packet_cell a.limits s.header.flags (part_on_map a s.header.map) s.payload ≡ Some packet
     → after_step a s ≡ a
@@ -446,7 +446,7 @@ lone_stays a s packet lone =
     ap (λ (ps : List (Option (List ℕ))). let b : AssemblerState = record { limits = a.limits; parts = ps } in b)
     (ap (set a.parts s.header.map) same ∙ set-get_or a.parts s.header.map None)
 
--- the part of the segment's MAP is that of the step, where the change that was put on an open one gives it
+-- the part of the segment's MAP is that of the step, if the change on an open MAP gives it
 put_by : (limits : Limits) (before after : List (Option (List ℕ))) (s : SegmentView) (opened : Bool)
     → is_open limits s.header.map ≡ opened
     → (let a : AssemblerState = record { limits = limits; parts = before } in

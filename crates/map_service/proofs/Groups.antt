@@ -1,4 +1,4 @@
--- Whole packets taken apart into groups.
+-- Whole packets divided into groups.
 use Rattle.std.proofs.Common.{◌≡◌, ◌≤◌, ◌<◌, ℕ, zero, suc, true, false, eqb, ◌+◌, ◌-◌, List, [], ◌∷◌, ◌++◌, length}
 use Rattle.std.proofs.Common.{take, drop, Some, None, refl, sym, ap, ◌∙◌, arith, inl, inr, length-take, length-drop}
 use Rattle.std.proofs.Common.{length-append}
@@ -58,7 +58,7 @@ group-run part n octets e le fits =
     let first = one_more-by_len octets n e le in
     rw (first.0, le-ltb part (length (take n octets)) (omega (arith, length-take n octets))) refl
 
--- ---- groups are packets in their order
+-- ---- groups are packets in order
 
 run-front : (room : ℕ) (packets : List (List ℕ))
     → take (length (longest_run room packets)) packets ≡ longest_run room packets
@@ -124,7 +124,7 @@ all_of octets e =
     (packets-split octets).whole ∙ ap (λ (xs : List ℕ). concat (packets_in octets) ++ xs) e
     ∙ append-nil (concat (packets_in octets))
 
--- packets one after another are these packets, and nothing is left
+-- packets one after another are found as these packets, and nothing is left
 pub again : (packets : List (List ℕ)) → IsWhole packets
     → (packets ≡ packets_in (concat packets)) × ([] ≡ rest_in (concat packets))
 again packets each =
@@ -162,7 +162,7 @@ some_packet : (packets : List (List ℕ)) (octets : List ℕ) → octets ≡ con
 some_packet [] octets e some = absurd (omega (arith, ap length e))
 some_packet (p ∷ ps) octets e some = omega arith
 
--- there is no group in no octets
+-- an empty list of octets has no segments
 pub groups-none : (part m : ℕ) → segments_of part m [] ≡ []
 unfolding groups_of
 groups-none part m = rw ((no_more [] refl).0) refl
@@ -217,7 +217,7 @@ in-one part m octets none some le =
     ∙ ap (λ (ss : List SegmentView). parts_of part m octets ++ ss) (groups-none part m)
     ∙ append-nil (parts_of part m octets)
 
--- octets whose number is 0
+-- a list of 0 octets is empty
 pub none_from : (octets : List ℕ) → true ≡ eqb (length octets) 0 → octets ≡ []
 none_from [] e = refl
 none_from (x ∷ xs) e =

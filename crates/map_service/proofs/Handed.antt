@@ -1,4 +1,4 @@
--- What is handed out at a segment is packets, each exactly one, on a MAP that is open.
+-- What a segment delivers is packets, each exactly one, on an open MAP.
 use Rattle.std.proofs.Common.{◌≡◌, ◌<◌, ℕ, Bool, true, false, not, List, [], ◌∷◌, ◌++◌, Option, Some, None, refl}
 use Rattle.std.proofs.Common.{sym, ap}
 use Rattle.std.proofs.Common.{◌≤◌, length, subst}
@@ -43,12 +43,12 @@ alone_by : (limits : Limits) (octets : List ℕ) (blocking : Bool)
 alone_by limits octets true e = refl
 alone_by limits octets false e = (one-from octets (one_whole limits octets e)).1
 
--- the packets of an alone segment that is handed out
+-- the packets that a segment flagged alone delivers
 pub alone_packets_are : (limits : Limits) (octets : List ℕ) → alone_fault limits octets ≡ None
     → packets_in octets ≡ alone_packets limits octets
 alone_packets_are limits octets none = alone_by limits octets limits.blocking none
 
--- an alone segment that is handed out, the part that is open being dropped
+-- a segment flagged alone whose packets are delivered; the open part is dropped
 pub handed_out : (limits : Limits) (part : Option (List ℕ)) (octets : List ℕ) → alone_fault limits octets ≡ None
     → outcome_with limits HandOut (interruption part) part octets ≡ cell limits Alone part octets
 handed_out limits part octets none =
@@ -67,7 +67,7 @@ handed_cell limits First part octets e = absurd cc
 handed_cell limits Continuing part octets e = absurd cc
 handed_cell limits Last part octets e = absurd cc
 
--- the packets are those that stand in its octets
+-- the packets delivered are those in the segment's octets
 pub handed_packets : (limits : Limits) (part : Option (List ℕ)) (s : SegmentView) → hands_out limits s ≡ true
     → (take_step limits part s).packets ≡ packets_in s.payload
 handed_packets limits part s e =
@@ -97,8 +97,8 @@ alone_whole : (limits : Limits) (octets : List ℕ) (blocking : Bool)
 alone_whole limits octets true e = several_whole limits octets e
 alone_whole limits octets false e = (one_whole limits octets e, tt)
 
--- what holds of no packets, of those of an alone segment and of the one that a last segment ends, where these are
--- handed out, holds of those of each cell
+-- What holds of no packets, of the packets that a segment flagged alone delivers, and of the packet that a last
+-- segment delivers, holds of the packets of each cell.
 module _ (P : List (List ℕ) → Type 0) (none : P []) where
   of_packets : (earlier : Option Dropped) (packets : List (List ℕ)) (fault : Option Dropped)
       → (fault ≡ None → P packets) → P (packets_outcome earlier packets fault).packets
@@ -132,7 +132,7 @@ cell_whole limits =
 pub open_below : (limits : Limits) (m : ℕ) → is_open limits m ≡ true → m < 64
 open_below limits m e = ltb-true m 64 (and_parts (nat_lt m 64) _ e).0
 
--- the property of a segment's packets, where it holds of none, and of whole ones on an open MAP
+-- the property of a segment's packets, if it holds of no packets, and of whole packets on an open MAP
 pub taken_whole : (P : List (List ℕ) → Type 0) (limits : Limits) (part : Option (List ℕ)) (s : SegmentView)
     → P [] → ((packets : List (List ℕ)) → s.header.map < 64 → AreWhole packets → P packets)
     → P (take_step limits part s).packets
@@ -141,7 +141,7 @@ taken_whole P limits part s none whole =
     (λ t. whole (cell limits s.header.flags part s.payload).packets (open_below limits s.header.map t)
     (cell_whole limits s.header.flags part s.payload)) (λ t. none)
 
--- ---- no packet that is handed out is longer than a packet may be
+-- ---- no packet that is delivered is longer than a packet may be
 
 abbrev pub AreWithin : ℕ → List (List ℕ) → Type 0
 AreWithin most packets = AllByRecursion (λ (p : List ℕ). length p ≤ most) packets
@@ -181,7 +181,7 @@ taken_within limits part s =
     (λ t. of_cell (AreWithin limits.max_packet) tt limits (λ octets. alone_within limits octets limits.blocking)
     (λ octets e. (one_within limits octets e, tt)) s.header.flags part s.payload) (λ t. tt)
 
--- ---- what is dropped with no memory taken hands nothing out
+-- ---- a segment that is dropped without allocating memory delivers nothing
 
 abbrev HandsNothingOut : TakeOutcome → Type 0
 HandsNothingOut o = is_dropped_at_once o.dropped ≡ true → o.packets ≡ []

@@ -1,4 +1,4 @@
--- Groups are the packets in their order, and each is as long as it can be.
+-- Groups are the packets in order, and each is as long as it can be.
 use Rattle.std.proofs.Common.{◌≡◌, ◌≤◌, ◌<◌, ◌⊎◌, ℕ, zero, suc, ◌+◌, ◌-◌, List, [], ◌∷◌, ◌++◌, length, take, drop, Bool}
 use Rattle.std.proofs.Common.{true, false, cond, ltb, refl, sym, ap, ◌∙◌, arith, inl, inr, length-append}
 use Rattle.std.specs.List.{AllByRecursion, concat, flat_map}

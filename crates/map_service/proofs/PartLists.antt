@@ -50,7 +50,7 @@ put_place : (parts : List (Option (List ℕ))) (m : ℕ) (part : Option (List �
 put_place parts m part lt =
     rw (length-set parts m part) (sym (set-append_left parts (replicate (64 - length parts) None) m part lt))
 
--- a change that opens no part leaves none on a MAP that has no place
+-- a change that opens no part leaves no open part on a MAP that has no place
 unopened : (change : Change) (octets : List ℕ) → is_opened change ≡ false → part_after change None octets ≡ None
 unopened Same octets e = refl
 unopened Closed octets e = refl
@@ -71,7 +71,7 @@ module _ {Z : Type 0} where
       let first : part_view part ≡ None = ap part_view closed.0 in
       rw first (ap (λ (xs : List (Option (List ℕ))). None ∷ xs) (closed_view parts closed.1))
 
-  -- a list in which no part is open stands for what no list does
+  -- a list in which no part is open represents the same parts as no list
   pub closed_list : (parts : List (Option (Vec ℕ Z))) → length parts ≤ 64
       → AllByRecursion (λ part. part ≡ None) parts → parts_of parts ≡ replicate 64 None
   closed_list parts most closed =
@@ -134,13 +134,13 @@ module _ {Z : Type 0} where
       (ap on_all_maps (map-set part_view parts place new)
       ∙ put_place (map part_view parts) place (part_view new) within)
 
-  -- where there is no list no part is open
+  -- if there is no list, no part is open
   pub closed_none : (parts : List (Option (Vec ℕ Z))) → length parts ≡ 0
       → AreClosed (λ m. get_or (parts_of parts) m None)
   closed_none [] none = λ m. of_none 64 m
   closed_none (part ∷ parts) none = absurd (omega arith)
 
-  -- where a part is opened, there is a list then: it is brought where there is none
+  -- after a part is opened there is a list, which is brought if there was none
   pub there : (limits : Limits) (m : ℕ) (change : Change) (old laid list : List (Option (Vec ℕ Z)))
       → is_open limits m ≡ true
       → (is_opened change ≡ true → length old ≡ 0 → HasPlaces limits (length list))
@@ -151,7 +151,7 @@ module _ {Z : Type 0} where
       rw (is refl) (omega arith)
   there limits m change (part ∷ old) laid list opened brought is same opens = rw (same (omega arith)) (omega arith)
 
-  -- a place of a list with no part open
+  -- a place of a list with no open part
   closed_at : (parts : List (Option (Vec ℕ Z))) (place : ℕ) (old : Option (Vec ℕ Z))
       → AreClosed (λ m. get_or (parts_of parts) m None) → place < length parts
       → part_view (get_or parts place old) ≡ None
@@ -179,7 +179,7 @@ module _ {Z : Type 0} where
   closed_calls step (y ∷ ys) f last each folds =
       (each f y folds.0 folds.1, closed_calls step ys folds.0 last each folds.2)
 
--- ---- the MAPs up to the highest that is open
+-- ---- the MAPs up to the highest open MAP
 
 no_bit : (limits : Limits) (m places : ℕ) → limits.maps < 2 ^ places → places ≤ m → is_open limits m ≡ false
 no_bit limits m places below past =
@@ -198,7 +198,7 @@ all_places limits zeros fits is =
           (let none = no_bit limits m top.0 top.2 (omega (arith, top.1, is)) in cc)
     ]
 
--- what is found out where a list is there if a part is open
+-- what is found out if there is a list whenever a part is open
 pub prepared_of : (limits : Limits) (parts : ℕ → Option (List ℕ)) (is_listed : Bool) (s : SegmentView)
     (r : Result Prepared MapFault) → (AreClosed parts → is_listed ≡ false)
     → IfOk r (IsFoundBy limits (parts s.header.map) (is_listed ≡ false) s) → IfOk r (IsPreparedBy limits parts s)

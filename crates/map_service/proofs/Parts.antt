@@ -17,14 +17,14 @@ use Rattle.map_service.specs.Packets.{packets_in, rest_in}
 use Rattle.map_service.proofs.Groups.{group-front, group-some, all_of}
 use Rattle.std.proofs.Math.Nat.{add-div_right, div-eq_of_lt}
 
--- what stands in front of a list that grew twice
+-- the front of a list that grew twice
 pub still_before : {A : Type 0} (xs ys zs : List A) → take (length xs) ys ≡ xs → take (length ys) zs ≡ ys
     → take (length xs) zs ≡ xs
 still_before xs ys zs p q =
     let le : length xs ≤ length ys = omega (arith, length-take (length xs) ys, ap length p) in
     sym (take-take (length xs) (length ys) zs le) ∙ ap (take (length xs)) q ∙ p
 
--- each number of steps that is enough gives the same
+-- each sufficient number of steps yields the same pieces
 same_pieces : (n k part : ℕ) (xs : List ℕ) → 1 ≤ part → 1 ≤ length xs → length xs ≤ n → length xs ≤ k
     → pieces_within n part xs ≡ pieces_within k part xs
 same_pieces zero k part xs one some le le' = absurd (omega arith)
@@ -53,7 +53,7 @@ pieces-more part (x ∷ xs) one lt =
     (same_pieces (length xs) (length rest) part rest one (omega (arith, length-drop part (x ∷ xs)))
     (omega (arith, length-drop part (x ∷ xs))) (omega (arith))))
 
--- octets that aren't none have a piece
+-- a nonempty list of octets has a piece
 pub pieces-some : (part : ℕ) (xs : List ℕ) → 1 ≤ part → 1 ≤ length xs
     → (p : List ℕ) × (ps : List (List ℕ)) × (pieces_of part xs ≡ p ∷ ps)
 pieces-some part xs one some =
@@ -85,7 +85,7 @@ pub parts-fit : (m part : ℕ) (xs : List ℕ) → 1 ≤ length xs → length xs
     → parts_of part m xs ≡ segment_with Alone m xs ∷ []
 parts-fit m part xs some le = ap (segments_of_pieces m) (pieces-fit part xs some le)
 
--- the segment that they are, where they are one
+-- the segment that octets form, if they form one
 pub alone-some : (part m : ℕ) (xs : List ℕ) (s : SegmentView) → Some s ≡ alone_segment part m xs
     → (s ≡ segment_with Alone m xs) × (length xs ≤ part)
 alone-some part m xs s =
@@ -128,7 +128,7 @@ and_others old new some others all e is =
     ap (λ (vs : List SegmentView). vs ++ others) e ∙ append_assoc old some others
     ∙ ap (λ (vs : List SegmentView). old ++ vs) (sym is)
 
--- the same lemmas, where the front and what is after it have names of their own
+-- the same lemmas with separate names for the front and for what is after it
 pub flagged-cut : (front single : SegmentFlags) (m part : ℕ) (xs piece behind : List ℕ) → 1 ≤ part → part < length xs
     → piece ≡ take part xs → behind ≡ drop part xs
     → flagged_segments front single m (pieces_of part xs) ≡ segment_with front m piece
@@ -136,7 +136,7 @@ pub flagged-cut : (front single : SegmentFlags) (m part : ℕ) (xs piece behind 
 flagged-cut front single m part xs piece behind one lt taken left =
     rw (taken, left) (flagged-more front single m part xs one lt)
 
--- ---- the segments of octets hold these octets, part by part
+-- ---- the segments of octets contain these octets, part by part
 
 joined_within : (n part : ℕ) (xs : List ℕ) → 1 ≤ part → length xs ≤ n → concat (pieces_within n part xs) ≡ xs
 joined_within zero part [] one le = refl
@@ -277,7 +277,7 @@ flagged-count front single m [] = refl
 flagged-count front single m (x ∷ []) = refl
 flagged-count front single m (x ∷ y ∷ ys) = ap suc (flagged-count Continuing Last m (y ∷ ys))
 
--- the parts of octets that aren't none
+-- the number of parts of a nonempty list of octets
 pub parts-count : (part m : ℕ) (xs : List ℕ) → 1 ≤ part → 1 ≤ length xs
     → length (parts_of part m xs) ≡ (length xs - 1) / part + 1
 unfolding pieces_of
@@ -294,7 +294,7 @@ record IsFollowing (part m : ℕ) (octets : List ℕ) (segments : List SegmentVi
   flags : flags_of segments ≡ replicate between Continuing ++ Last ∷ []
   full : AllByRecursion (IsFull part) (take between segments)
 
--- a number of octets goes down with each part
+-- the number of octets decreases with each part
 following_is : (n part m : ℕ) (octets : List ℕ) → 1 ≤ part → 1 ≤ length octets → length octets ≤ n
     → IsFollowing part m octets (later_segments m (pieces_of part octets))
 following_is zero part m octets one some le = absurd (omega arith)
@@ -336,7 +336,7 @@ in_parts part m octets one lt =
 
 -- ---- and no others
 
--- a segment by its parts
+-- a segment from its fields
 segment_is : (s : SegmentView) (flags : SegmentFlags) (m : ℕ) (octets : List ℕ) → s.header.flags ≡ flags
     → s.header.map ≡ m → s.payload ≡ octets → s ≡ segment_with flags m octets
 segment_is s flags m octets f e p =
@@ -357,7 +357,7 @@ split_at_part part octets piece behind e len some = record {
   back = sym (drop_at piece behind part len) ∙ ap (drop part) e;
 }
 
--- segments of flags that end with a last have octets
+-- segments whose flags end with a last have octets
 some_behind : (part m n : ℕ) (segments : List SegmentView) → flags_of segments ≡ replicate n Continuing ++ Last ∷ []
     → AllByRecursion (IsPart part m) segments → 1 ≤ length (concat (payloads segments))
 some_behind part m zero [] f each = absurd cc
@@ -365,7 +365,7 @@ some_behind part m (suc n) [] f each = absurd cc
 some_behind part m n (s ∷ segments) f each =
     omega (arith, each.0.least, length-append s.payload (concat (payloads segments)))
 
--- the flags of segments of which n follow a first, or of one alone
+-- the flags of a first segment and of n that follow it, or of one alone
 abbrev flags_from : SegmentFlags → SegmentFlags → ℕ → List SegmentFlags
 flags_from front single zero = single ∷ []
 flags_from front single (suc n) = front ∷ (replicate n Continuing ++ Last ∷ [])

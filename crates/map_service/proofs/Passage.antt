@@ -1,4 +1,4 @@
--- Packets that were cut or joined are assembled again.
+-- Packets that were cut or joined are reassembled.
 use Rattle.std.proofs.Common.{◌≡◌, ◌≢◌, ◌≤◌, ◌<◌, ◌⊎◌, ℕ, zero, suc, ◌-◌, List, [], ◌∷◌, ◌++◌, length, take, drop}
 use Rattle.std.proofs.Common.{Bool, true, false, cond, eqb, ltb, not, Option, Some, None, refl, sym, ap, subst, ◌∙◌}
 use Rattle.std.proofs.Common.{arith, inl, inr, append_assoc, length-drop, length-append}
@@ -34,7 +34,7 @@ up_to_last-append : (xs ys : List SegmentView) → up_to_last ys ≡ None → up
 up_to_last-append [] ys e = e
 up_to_last-append (s ∷ xs) ys e = ap (up_to_last_from s.header.flags s.payload) (up_to_last-append xs ys e)
 
--- where a block begins, the packets are those before it and those from it on
+-- if a block begins there, the packets are those before it and those from it on
 pub blocks-append : (limits : Limits) (xs ys : List SegmentView) → up_to_last ys ≡ None
     → blocks_packets limits (xs ++ ys) ≡ blocks_packets limits xs ++ blocks_packets limits ys
 blocks-append limits [] ys e = refl
@@ -60,7 +60,7 @@ up_to_end-append (s ∷ xs) ys e =
     ap (up_to_end_from s.header.flags s.payload) (up_to_end-append xs ys e)
     ∙ up_to_end_from-none s.header.flags s.payload
 
--- what is open before segments that aren't all continuing ones is dropped
+-- a part that is open before segments that are not all continuing ones is dropped
 pub ending-append : (xs ys : List SegmentView) → up_to_end ys ≡ None → ending_part (xs ++ ys) ≡ ending_part ys
 ending-append [] ys e = refl
 ending-append (s ∷ xs) ys e =
@@ -89,7 +89,7 @@ later_segments-part_from m [] = refl
 later_segments-part_from m (x ∷ []) = refl
 later_segments-part_from m (x ∷ y ∷ ys) = later_segments-part_from m (y ∷ ys)
 
--- several parts give what their joined data are
+-- several parts yield what their joined data form
 segments_of_pieces-gives : (limits : Limits) (m : ℕ) (x y : List ℕ) (ys : List (List ℕ))
     → blocks_packets limits (segments_of_pieces m (x ∷ y ∷ ys)) ≡ one_packet limits (concat (x ∷ y ∷ ys))
 segments_of_pieces-gives limits m x y ys =
@@ -223,7 +223,7 @@ each-group most (suc n) part (p ∷ ps) h =
           (drop k (p ∷ ps)) (behind-each (IsTaken most) k (p ∷ ps) h),
     )
 
--- ---- what a group gives
+-- ---- what a group yields
 
 -- a packet is one packet
 one-packet : (p : List ℕ) → IsRecord 6 extent_at p → is_packet p ≡ true
@@ -297,7 +297,7 @@ groups-gives limits part m [] one blocking h = tt
 groups-gives limits part m (g ∷ gs) one blocking h =
     (group-gives limits part m g one blocking h.0, groups-gives limits part m gs one blocking h.1)
 
--- ---- what octets give that are cut
+-- ---- what octets that are cut yield
 
 joined-octets : (limits : Limits) (part m : ℕ) (octets : List ℕ) → 1 ≤ part → limits.blocking ≡ true
     → AllByRecursion (IsTaken limits.max_packet) (packets_in octets)
@@ -333,7 +333,7 @@ alone-octets limits part m octets one blocking is taken =
     ]
     ∙ sym is
 
--- ---- octets that aren't refused
+-- ---- octets that are not refused
 
 length-none : (xs : List ℕ) → eqb (length xs) 0 ≡ true → xs ≡ []
 length-none xs e = none_from xs (sym e)
@@ -451,7 +451,7 @@ given-passed limits m segments octets one opened none =
     ∙ ap (λ (ps : List (List ℕ)). blocks_packets limits front ++ ps)
     (passed_by limits limits.part m octets limits.blocking refl one (cuttable_from limits octets none)))
 
--- segments of octets aren't none
+-- a nonempty list of octets has at least one segment
 no_segments : (part m : ℕ) (octets : List ℕ) → 1 ≤ part → 1 ≤ length octets → rest_in octets ≡ []
     → segments_of part m octets ≡ [] → ⊥
 no_segments part m octets one some whole e =
@@ -478,7 +478,7 @@ closed-passed limits m segments octets one opened none =
     ∙ ap (unless_too_long limits) (closed_by part m octets (of_map m segments) one h.some h.whole
     (groups-end part m (groups_of part (packets_in octets)))))
 
--- ---- what is assembled of the segments of a run of calls
+-- ---- what is assembled from the segments of a sequence of calls
 
 -- one call, seen from any MAP
 one_call : (limits : Limits) (m : ℕ) (segments : List SegmentView) (s : Submission) (b : Bool) → eqb s.on_map m ≡ b
@@ -523,7 +523,7 @@ all_assembled limits m submissions one h =
     all_calls limits m [] submissions one h
     ∙ ap (λ (ps : List (List ℕ)). ps ++ packets_on m submissions) (nothing limits (is_open limits m))
 
--- what is assembled of a beginning of the segments begins the packets
+-- what is assembled from a beginning of the segments is a beginning of the packets
 pub some_assembled : (limits : Limits) (m : ℕ) (submissions : List Submission) (segments : List SegmentView)
     → 1 ≤ limits.part → AllByRecursion (IsSubmitted limits) submissions
     → IsBeginning segments (segments_of_all limits.part submissions)

@@ -1,4 +1,5 @@
--- Octets as whole packets, one after another: how they are judged, and that they are just those that spell some.
+-- Octets as whole packets, one after another: how they are judged, and that they are exactly those that spell
+-- packets.
 use Rattle.std.proofs.Common.{◌≡◌, ◌≤◌, ◌<◌, ℕ, Bool, true, false, ltb, eqb, List, length, take, drop, Some, None, sym}
 use Rattle.std.proofs.Common.{refl, ap, ◌∙◌, arith, length-take, [], ◌∷◌, subst, length-append}
 use Rattle.std.specs.Prelude.{◌||◌}
@@ -15,7 +16,7 @@ use Rattle.space_packet.proofs.Decoded.{records_are, record_again}
 use Rattle.map_service.proofs.Groups.{IsWhole, packets-split, all_of, again}
 use Rattle.map_service.proofs.Passage.{whole-from, one-from}
 
--- octets that aren't none are packets where nothing is left
+-- a nonempty list of octets is whole packets if nothing is left
 pub are_packets-by_rest : (octets rest : List ℕ) → eqb (length octets) 0 ≡ false → rest_in rest ≡ rest_in octets
     → first_packet rest ≡ None
     → eqb (length rest) 0 ≡ are_packets octets
@@ -31,18 +32,18 @@ over-more most n octets e le =
     ap (is_some_over most) (one_more-by_len octets n e le).0
     ∙ ap (λ (k : ℕ). ltb most k || is_some_over most (packets_in (drop n octets))) len
 
--- where no more are read, what was seen of those before is so of all
+-- if no more packets are read, what was found for those before holds for all
 pub over-none : (most : ℕ) (octets : List ℕ) (seen : Bool) → first_packet octets ≡ None
     → seen ≡ seen || is_some_over most (packets_in octets)
 over-none most octets seen e =
     sym (or-false seen) ∙ ap (λ (ps : List (List ℕ)). seen || is_some_over most ps) (sym (no_more octets e).0)
 
--- exactly one
+-- exactly one packet
 pub one_over : (most : ℕ) (octets : List ℕ) → is_packet octets ≡ true
     → is_some_over most (packets_in octets) ≡ ltb most (length octets)
 one_over most octets h = ap (is_some_over most) (one-from octets h).1 ∙ or-false (ltb most (length octets))
 
--- ---- octets are judged to be packets exactly where they spell packets
+-- ---- octets are judged to be packets exactly when they spell packets
 
 spelled_in : (octets : List ℕ) → IsOctets octets → rest_in octets ≡ [] → AllByRecursion IsSomePacket (packets_in octets)
 spelled_in octets fits none =
@@ -63,7 +64,7 @@ several_are octets fits h =
       joined = sym joined;
     }
 
--- ---- what is found of packets
+-- ---- what is found in packets
 
 records_again : (packets : List (List ℕ)) → AllByRecursion IsSomePacket packets → IsWhole packets
 records_again [] h = tt

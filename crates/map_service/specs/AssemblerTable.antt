@@ -12,14 +12,13 @@ use Rattle.map_service.specs.declared.dropped.Dropped.TheVariants.{TooLong}
 use Rattle.map_service.specs.Packets.{packets_in, are_packets, is_packet, is_some_over}
 use Rattle.map_service.specs.Assembly.{is_open, is_too_long}
 
--- what is dropped, which packets are handed out, and the part that is open then on the segment's
--- MAP
+-- what is dropped, which packets are delivered, and the part that is then open on the segment's MAP
 pub record TakeOutcome : Type 0 where
   pub dropped : Option Dropped
   pub packets : List (List ℕ)
   pub part : Option (List ℕ)
 
--- ---- octets judged as a whole: why they aren't handed out, where they aren't
+-- ---- octets judged as a whole: why they are not delivered, if they are not
 
 abbrev pub one_fault : Limits → List ℕ → Option Dropped
 one_fault limits octets =
@@ -40,7 +39,7 @@ alone_fault limits octets =
 abbrev pub alone_packets : Limits → List ℕ → List (List ℕ)
 alone_packets limits octets = if limits.blocking then packets_in octets else octets ∷ []
 
--- ---- what follows; where something was dropped before, the later cause is reported
+-- ---- outcomes; if something was dropped before, the later cause is reported
 
 abbrev pub drop_outcome : Dropped → TakeOutcome
 drop_outcome cause = record { dropped = Some cause; packets = []; part = None }
@@ -54,12 +53,12 @@ part_outcome limits earlier octets =
     if is_too_long limits octets then drop_outcome TooLong else record
     { dropped = earlier; packets = []; part = Some octets }
 
--- what a first or an alone segment drops: the part that is open
+-- what a segment flagged first or alone drops: the open part
 abbrev pub interruption : Option (List ℕ) → Option Dropped
 interruption None = None
 interruption (Some part) = Some Interrupted
 
--- ---- the table: the segment's flags, the part that is open, the segment's data
+-- ---- the table: the segment's flags, the open part, the segment's data
 
 abbrev pub cell : Limits → SegmentFlags → Option (List ℕ) → List ℕ → TakeOutcome
 cell limits Alone part octets =
@@ -71,7 +70,7 @@ cell limits Last None octets = drop_outcome NoBeginning
 cell limits Last (Some part) octets =
     packets_outcome None ((part ++ octets) ∷ []) (one_fault limits (part ++ octets))
 
--- the cell of a segment, by the part that is open
+-- the cell of a segment, given the open part
 abbrev pub cell_at : Limits → Option (List ℕ) → SegmentView → TakeOutcome
 cell_at limits part s = cell limits s.header.flags part s.payload
 
@@ -81,9 +80,9 @@ take_step limits part s =
     if is_open limits s.header.map then cell_at limits part s
     else record { dropped = Some ClosedMap; packets = []; part = part }
 
--- ---- the segment that is one packet by itself, and is handed out where it stands
+-- ---- the segment that is one packet by itself, delivered from its own octets
 
--- the outcome where one packet is handed out, and there is nothing else
+-- the outcome if one packet is delivered, and nothing else happens
 abbrev pub packet_outcome : List ℕ → TakeOutcome
 packet_outcome packet = record { dropped = None; packets = packet ∷ []; part = None }
 
@@ -98,14 +97,14 @@ lone_packet_cell limits First part octets = None
 lone_packet_cell limits Continuing part octets = None
 lone_packet_cell limits Last part octets = None
 
--- the packet that an alone segment of an open MAP is, where no part is open there and nothing is
--- blocked
+-- the packet that a segment flagged alone forms, if its MAP is open, no part is open there, and
+-- there is no blocking
 abbrev pub lone_packet_at : Limits → Option (List ℕ) → SegmentView → Option (List ℕ)
 lone_packet_at limits part s =
     if is_open limits s.header.map
     && not limits.blocking then lone_packet_cell limits s.header.flags part s.payload else None
 
--- ---- the alone segment whose packets are handed out, wherever they are copied to
+-- ---- the segment flagged alone whose packets are delivered, wherever they are copied to
 
 abbrev pub hands_out_cell : Limits → SegmentFlags → List ℕ → Bool
 hands_out_cell limits Alone octets = is_none (alone_fault limits octets)
@@ -113,14 +112,14 @@ hands_out_cell limits First octets = false
 hands_out_cell limits Continuing octets = false
 hands_out_cell limits Last octets = false
 
--- an alone segment of an open MAP, with no fault
+-- a segment of an open MAP, flagged alone and with no fault
 abbrev pub hands_out : Limits → SegmentView → Bool
 hands_out limits s =
     is_open limits s.header.map && hands_out_cell limits s.header.flags s.payload
 
--- ---- which segments are dropped with no memory taken
+-- ---- segments that are dropped without allocating memory
 
--- what is dropped with no memory taken first
+-- whether this is dropped before any memory is allocated
 abbrev pub is_dropped_at_once : Option Dropped → Bool
 is_dropped_at_once None = false
 is_dropped_at_once (Some ClosedMap) = true
@@ -129,6 +128,6 @@ is_dropped_at_once (Some NoBeginning) = true
 is_dropped_at_once (Some NotAPacket) = false
 is_dropped_at_once (Some TooLong) = true
 
--- there is an answer, memory or not, where what is dropped takes none
+-- if the segment is dropped at once, the call succeeds even if memory has run out
 abbrev pub IsSureAtOnce : {A E : Type 0} → TakeOutcome → Result A E → Type 0
 IsSureAtOnce o result = is_dropped_at_once o.dropped ≡ true → IsOk result

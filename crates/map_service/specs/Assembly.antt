@@ -1,6 +1,6 @@
--- What a list of segments gives on a MAP. A block is an alone segment, or a first one followed
--- directly, among the segments of its MAP, by any number of continuing ones and a last one (CCSDS
--- 232.0-B-4, 4.1.3.2.2.2).
+-- What is assembled from a list of segments on a MAP. A block is a segment flagged alone, or a
+-- first segment followed directly, among the segments of its MAP, by any number of continuing
+-- segments and a last one (CCSDS 232.0-B-4, 4.1.3.2.2.2).
 use Rattle.std.specs.Prelude.{ℕ, ◌/◌, ◌%◌, ◌^◌, List, [], ◌∷◌, ◌++◌, length, filter, Bool, not}
 use Rattle.std.specs.Prelude.{◌&&◌, ◌==◌, nat_lt, if◌then◌else◌, Option, Some, None}
 use Rattle.tc_frame.specs.declared.frame.SegmentFlags.{SegmentFlags}
@@ -16,26 +16,26 @@ is_open limits m = nat_lt m 64 && (limits.maps / 2 ^ m % 2 == 1)
 abbrev pub of_map : ℕ → List SegmentView → List SegmentView
 of_map m segments = filter (λ (s : SegmentView). s.header.map == m) segments
 
--- ---- the packets that octets are
+-- ---- the packets that octets form
 
 abbrev pub is_too_long : Limits → List ℕ → Bool
 is_too_long limits octets = nat_lt limits.max_packet (length octets)
 
--- the octets, where they are exactly one packet
+-- the octets, if they are exactly one packet that is not too long
 abbrev pub one_packet : Limits → List ℕ → List (List ℕ)
 one_packet limits octets =
     if is_packet octets && not (is_too_long limits octets) then octets ∷ [] else []
 
--- the packets of an alone segment, which with blocking are one or more
+-- the packets of a segment flagged alone; with blocking there may be several
 abbrev pub packets_of : Limits → List ℕ → List (List ℕ)
 packets_of limits octets =
     if limits.blocking then (if are_packets octets
     && not (is_some_over limits.max_packet (packets_in octets)) then packets_in octets else [])
     else one_packet limits octets
 
--- ---- what follows a place, in a list of segments of one MAP
+-- ---- what follows a place in a list of segments of one MAP
 
--- octets, and then more
+-- octets followed by more
 abbrev pub joined_data : List ℕ → Option (List ℕ) → Option (List ℕ)
 joined_data octets None = None
 joined_data octets (Some more) = Some (octets ++ more)
@@ -46,7 +46,7 @@ up_to_last_from First octets more = None
 up_to_last_from Continuing octets more = joined_data octets more
 up_to_last_from Last octets more = Some octets
 
--- the joined data where the segments begin with any number of continuing ones and a last one
+-- the joined data, if the segments begin with any number of continuing ones and a last one
 abbrev pub up_to_last : List SegmentView → Option (List ℕ)
 up_to_last [] = None
 up_to_last (s ∷ segments) = up_to_last_from s.header.flags s.payload (up_to_last segments)
@@ -57,15 +57,15 @@ up_to_end_from First octets more = None
 up_to_end_from Continuing octets more = joined_data octets more
 up_to_end_from Last octets more = None
 
--- the joined data where all segments are continuing ones
+-- the joined data, if all segments are continuing ones
 abbrev pub up_to_end : List SegmentView → Option (List ℕ)
 up_to_end [] = Some []
 up_to_end (s ∷ segments) = up_to_end_from s.header.flags s.payload (up_to_end segments)
 
--- ---- what a list of segments gives
+-- ---- what is assembled from a list of segments
 
--- the packets of the block that begins with a segment of these flags and data, before this joined
--- data up to a last one
+-- the packets of the block that begins with a segment of these flags and data; `more` is the joined
+-- data of the segments after it, up to a last one
 abbrev pub block_packets : Limits → SegmentFlags → List ℕ → Option (List ℕ) → List (List ℕ)
 block_packets limits Alone octets more = packets_of limits octets
 block_packets limits First octets (Some more) = one_packet limits (octets ++ more)
@@ -84,8 +84,8 @@ abbrev pub assembled : Limits → ℕ → List SegmentView → List (List ℕ)
 assembled limits m segments =
     if is_open limits m then blocks_packets limits (of_map m segments) else []
 
--- the joined data of a first and the continuing segments that end the list, from a segment of these
--- flags and data on or from a later one
+-- the joined data of a first segment and of the continuing ones that end the list; the first is a
+-- segment of these flags and data, or a later one
 abbrev pub part_from : SegmentFlags → List ℕ → Option (List ℕ) → Option (List ℕ) → Option (List ℕ)
 part_from Alone octets more later = later
 part_from First octets (Some more) later = Some (octets ++ more)

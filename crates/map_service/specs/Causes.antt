@@ -1,4 +1,4 @@
--- The causes for which octets on a MAP are dropped: a row each.
+-- The causes for which octets on a MAP are dropped, one row each.
 use Rattle.std.specs.Prelude.{ℕ, List, codes}
 use Rattle.map_service.specs.declared.dropped.Dropped.{Dropped}
 use Rattle.map_service.specs.declared.dropped.Dropped.TheVariants.{ClosedMap, Interrupted}

@@ -1,4 +1,4 @@
--- What is decided of a segment of an open MAP, whatever keeps the part that is open.
+-- What is decided about a segment of an open MAP, wherever the open part is kept.
 use Rattle.std.specs.Prelude.{◌≤◌, ℕ, List, [], ◌∷◌, ◌++◌, length, Option, Some, None, IsSome}
 use Rattle.std.specs.Prelude.{IfSome, option_map}
 use Rattle.map_service.specs.declared.decision.Decision.{Decision}
@@ -9,12 +9,12 @@ use Rattle.map_service.specs.declared.limits.Limits.{Limits}
 use Rattle.map_service.specs.Packets.{packets_in}
 use Rattle.map_service.specs.AssemblerTable.{TakeOutcome, one_fault, packets_outcome}
 
--- the part and the segment's data
+-- the part followed by the segment's data
 abbrev pub joined : Option (List ℕ) → List ℕ → List ℕ
 joined None octets = octets
 joined (Some part) octets = part ++ octets
 
--- what comes of an action with these
+-- the outcome of an action with this part and these data
 abbrev pub outcome_with : Limits → Action → Option Dropped → Option (List ℕ) → List ℕ → TakeOutcome
 outcome_with limits Close dropped part octets =
     record { dropped = dropped; packets = []; part = None }

@@ -1,4 +1,4 @@
--- The refusals of cutting and assembling: a row each.
+-- The faults of cutting and assembling, one row each.
 use Rattle.std.specs.Prelude.{ℕ, List, codes}
 use Rattle.map_service.specs.declared.fault.MapFault.{MapFault}
 use Rattle.map_service.specs.declared.fault.MapFault.TheVariants.{NotAPacket, TooLong, Memory}

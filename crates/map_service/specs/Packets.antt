@@ -8,8 +8,8 @@ pub use Rattle.space_packet.specs.Packets.{first_packet, packets_in, rest_in, is
 abbrev pub are_packets : List ℕ → Bool
 are_packets octets = nat_lt 0 (length octets) && (length (rest_in octets) == 0)
 
--- what a sender hands over in one call, and a segment holds that is no part: exactly one packet,
--- or with blocking one or more
+-- what a sender submits in one call, and what a segment that is not a part contains: exactly one
+-- packet, or with blocking one or more
 abbrev pub are_taken : Bool → List ℕ → Bool
 are_taken blocking octets = if blocking then are_packets octets else is_packet octets
 
@@ -17,7 +17,8 @@ are_taken blocking octets = if blocking then are_packets octets else is_packet o
 abbrev pub is_some_over : ℕ → List (List ℕ) → Bool
 is_some_over most packets = list_any (λ p. nat_lt most (length p)) packets
 
--- the octets are one or more packets, each as octets that spell it, one after another
+-- the octets are these packets, one or more, one after another; each is given by the octets that
+-- spell it
 pub record ArePackets (octets : List ℕ) (packets : List (List ℕ)) : Type 0 where
   pub some : 1 ≤ length packets
   pub each : AllByRecursion IsSomePacket packets

@@ -1,4 +1,4 @@
--- What is found out of a segment before anything changes.
+-- What is found out about a segment before anything changes.
 use Rattle.std.specs.Prelude.{◌≡◌, ◌≤◌, ℕ, List, ◌++◌, length, Option, Some, None, option_map}
 use Rattle.std.specs.Prelude.{IfSome, Bool, true, false}
 use Rattle.std.specs.Vec.{vec_capacity}
@@ -12,7 +12,7 @@ use Rattle.map_service.specs.AssemblerTable.{TakeOutcome, take_step}
 use Rattle.map_service.specs.AssemblerFields.{HasPlaces, IsNewList}
 use Rattle.map_service.specs.Views.{ready_view}
 
--- the part that is open then, where this one was and these are the segment's data
+-- the part that is open afterwards, from the part that was open and the segment's data
 abbrev pub part_after : Change → Option (List ℕ) → List ℕ → Option (List ℕ)
 part_after Same part octets = part
 part_after Closed part octets = None
@@ -27,22 +27,22 @@ outcome_of p part octets = record {
   part = part_after p.change part octets;
 }
 
--- the part has room for the longest packet, or the data fit into that room
+-- a new part has room for the longest packet, and a part that grows stays within this length
 abbrev pub HasRoom : ℕ → Change → Option (List ℕ) → List ℕ → Type 0
 HasRoom most Same part octets = Unit {0}
 HasRoom most Closed part octets = Unit {0}
 HasRoom most (Opened new) part octets = most ≤ vec_capacity new
 HasRoom most Grown part octets = IfSome part (λ begun. length (begun ++ octets) ≤ most)
 
--- a part is opened
+-- whether a part is opened
 abbrev pub is_opened : Change → Bool
 is_opened Same = false
 is_opened Closed = false
 is_opened (Opened new) = true
 is_opened Grown = false
 
--- this was found out of this segment, where this part is open on its MAP; where a part is opened
--- and there may be no list of the parts, it has one
+-- This is what was found out about the segment, with this part open on its MAP. If a part is opened
+-- and there may be no list of the parts, `p` has a list.
 pub record IsFoundBy (limits : Limits) (part : Option (List ℕ)) (MayLack : Type 0) (s : SegmentView)
     (p : Prepared) : Type 0 where
   pub outcome : outcome_of p part s.payload ≡ take_step limits part s
@@ -54,10 +54,10 @@ pub record IsFoundBy (limits : Limits) (part : Option (List ℕ)) (MayLack : Typ
 abbrev pub AreClosed : (ℕ → Option (List ℕ)) → Type 0
 AreClosed parts = (m : ℕ) → parts m ≡ None
 
--- the same, where these parts are open, each on its MAP: a list is there where one of them is
+-- the same if these parts are open, each on its MAP; there is a list if one of them is open
 abbrev pub IsPreparedBy : Limits → (ℕ → Option (List ℕ)) → SegmentView → Prepared → Type 0
 IsPreparedBy limits parts s p = IsFoundBy limits (parts s.header.map) (AreClosed parts) s p
 
--- the same, at an assembler in this state
+-- the same for an assembler in this state
 abbrev pub IsPrepared : AssemblerState → SegmentView → Prepared → Type 0
 IsPrepared a s p = IsPreparedBy a.limits (part_on_map a) s p

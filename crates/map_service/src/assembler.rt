@@ -1,4 +1,4 @@
-// Joining segments to packets.
+// Joins segments into packets.
 
 ghost use Rattle.std.specs.Prelude.{◌≡◌, ◌≤◌, ◌++◌, [], ◌∷◌, List, length, true, false, Some, None, IsSome, option_map, option_copied, get_or, set};
 ghost use Rattle.std.specs.Prelude.{IfSome, IsOk, IfOk, IfErr, OnOk, OnErr, if◌then◌else◌};
@@ -24,29 +24,29 @@ use std::alloc::{AllocError, Global};
 use std::marker::Model;
 use tc_frame::{Segment, SegmentFlags};
 
-/// What an assembler answers to a segment.
+/// What an assembler returns for a segment.
 #[derive(Drop)]
 pub struct Taken {
-    /// What was dropped, where anything was: the later of two.
+    /// What was dropped, if anything: the later of two.
     pub dropped: Option<Dropped>,
     /// The packets that are whole now, in order, each as its octets.
     pub packets: Vec<Vec<u8>>,
 }
 
-/// What an assembler answers to a segment, as `Taken`.
+/// What an assembler returns for a segment, as `Taken`.
 #[derive(Drop)]
 pub struct TakenInline {
-    /// What was dropped, where anything was: the later of two.
+    /// What was dropped, if anything: the later of two.
     pub dropped: Option<Dropped>,
     /// The packets that are whole now, in order, each as its octets. A list of one takes no memory
     /// of its own.
     pub packets: SmallVec<Vec<u8>, 1>,
 }
 
-// What becomes of the part that is open on the segment's MAP.
+// What happens to the open part on the segment's MAP.
 #[derive(Drop)]
 enum Change {
-    // It is as it was.
+    // It is unchanged.
     Same,
     // No part is open.
     Closed,
@@ -56,30 +56,30 @@ enum Change {
     Grown,
 }
 
-/// What comes of a segment, with all the memory that this needs: `Assembler::prepare` makes it, and
-/// `Assembler::commit` does it.
+/// The outcome of a segment, with all the memory that it needs. `Assembler::prepare` creates it, and
+/// `Assembler::commit` carries it out.
 #[derive(Drop)]
 pub struct Prepared {
-    /// What is dropped, where anything is: the later of two.
+    /// What is dropped, if anything: the later of two.
     pub dropped: Option<Dropped>,
-    /// The packets that are whole then, in order, each as its octets. A list of one takes no memory
-    /// of its own.
+    /// The packets that are whole afterwards, in order, each as its octets. A list of one takes no memory of
+    /// its own.
     pub packets: SmallVec<Vec<u8>, 1>,
     change: Change,
-    // a list of the parts, where it has to be brought; it has no places otherwise
+    // a new list of the parts, if one is needed; otherwise empty
     list: Vec<Option<Vec<u8>>>,
 }
 
-/// Joins the segments of each MAP to packets (CCSDS 232.0-B-4, 4.1.3.2.2). It keeps the part that
-/// is open on each MAP, which is the data of a first segment and of the continuing ones since. In
-/// contracts it is its limits and these parts.
+/// Joins the segments of each MAP into packets (CCSDS 232.0-B-4, 4.1.3.2.2). It keeps the open part of each
+/// MAP: the data of a first segment and of the continuing ones since. Contracts see its limits and these
+/// parts.
 #[derive(Drop)]
 pub struct Assembler {
     alloc: Global,
     limits: Limits,
-    // a place for each MAP up to the highest that is open, from the first part that is opened on
+    // a place for each MAP up to the highest open MAP, once a part has been opened
     parts: Vec<Option<Vec<u8>>>,
-    // the room of a part that was closed, for the next one that is opened
+    // the buffer of a closed part, for the next part that is opened
     spare: Option<Vec<u8>>,
 }
 
@@ -103,13 +103,13 @@ impl Assembler {
     ghost use Rattle.map_service.specs.Prepared.{IsPrepared};
     ghost use Rattle.map_service.specs.AssemblerTable.{packet_outcome};
 
-    /// An assembler with no part open. It takes no memory.
+    /// Returns an assembler with no open part. It takes no memory.
     #[tactic(auto, using(crate::proofs::AssemblerSteps::no_parts))]
     pub fn new(alloc: Global, limits: Limits) -> Assembler
         ensures limits { result.limits ≡ limits }
         ensures parts { result.parts ≡ replicate 64 None }
 
-        // So it keeps the parts of no segments.
+        // So it keeps the parts of an empty list of segments.
         ensures begun { HasPartsOf result [] }
     {
         Assembler {
@@ -120,9 +120,9 @@ impl Assembler {
         }
     }
 
-    /// Takes the next segment: says what was dropped, and hands out the packets that are whole now. It
-    /// is `prepare` and then `commit`, but a first segment opens its part in the room of one that was
-    /// closed, where there is any. At a fault the assembler is as it was.
+    /// Takes the next segment, and returns what was dropped and the packets that are now whole. It does what
+    /// `prepare` and then `commit` do, except that a first segment opens its part in the buffer of a closed
+    /// one, if there is any. On a fault the assembler is unchanged.
     /// Faults: 3 Memory. Memory: yes; none where the segment is dropped at once. Cost: n*, and the
     /// packets handed out.
     pub fn take(&mut self, segment: &Segment) -> Result<Taken, MapFault>
@@ -135,10 +135,10 @@ impl Assembler {
         ensures memory { OnErr result (self.new ≡ self.old) }
         ensures fault { IfErr result (λ e. e ≡ MapFault.Memory) }
 
-        // It takes no memory for a segment that is dropped by `ClosedMap`, `NoBeginning` or `TooLong`.
+        // It takes no memory for a segment that is dropped with `ClosedMap`, `NoBeginning` or `TooLong`.
         ensures none { IsSureAtOnce (step_at self.old (segment_view segment.now)) result }
 
-        // Exact assembly, whichever segments led here.
+        // Exact assembly, whichever segments came before.
         ensures exact { IfOk result (λ t. (segments : List SegmentView)
             → HasPartsOf self.old segments
             → IsTakenExactly
@@ -189,16 +189,17 @@ impl Assembler {
         Ok(TakenInline { dropped, packets })
     }
 
-    /// Finds out what comes of the next segment, and takes the memory that this needs. Nothing changes.
+    /// Determines the outcome of the next segment, and allocates the memory that it needs. The assembler does
+    /// not change.
     ///
-    /// An alone segment is judged as a whole, a first one opens a part, a continuing one is added to
-    /// it, and a last one is added and all of it judged. What is judged is handed out where it is
-    /// exactly one packet of at most `max_packet` octets; with blocking an alone segment may hold
-    /// several, one after another. Otherwise it is dropped: `NotAPacket`, or `TooLong`, which is also
-    /// the cause where a part passes `max_packet` octets. A part that is open at a first or an alone
-    /// segment is dropped, `Interrupted`; a continuing or last segment with no part open,
-    /// `NoBeginning`. A segment of a MAP that is not open, `ClosedMap`, changes nothing. Where two
-    /// causes come together the later is reported.
+    /// A segment flagged alone is judged as a whole. A first one opens a part, a continuing one is added to
+    /// the part, and a last one is added before the whole part is judged. Octets that are judged are
+    /// delivered if they are exactly one packet of at most `max_packet` octets. With blocking, a segment
+    /// flagged alone may contain several such packets, one after another. Otherwise the octets are dropped
+    /// with `NotAPacket` or `TooLong`. A part that exceeds `max_packet` octets is dropped with `TooLong` too.
+    /// A first segment, or one flagged alone, drops an open part with `Interrupted`. A continuing or last
+    /// segment with no open part is dropped with `NoBeginning`. A segment of a closed MAP is dropped with
+    /// `ClosedMap`, and changes nothing. If there are two causes, the later is reported.
     /// Faults: 3 Memory. Memory: yes; none where the segment is dropped at once, or continues a part.
     /// Cost: n and the open part.
     pub fn prepare(&self, segment: &Segment) -> Result<Prepared, MapFault>
@@ -217,7 +218,7 @@ impl Assembler {
         )
     }
 
-    // The same, with the room that is kept.
+    // The same, with the spare buffer.
     #[inline(always)]
     fn prepare_with_spare(&mut self, segment: &Segment) -> Result<Prepared, MapFault>
         ensures state { self.new ≡ self.old }
@@ -236,8 +237,8 @@ impl Assembler {
         )
     }
 
-    /// Takes the segment of which this was prepared, since when nothing has changed, and hands out the
-    /// packets that are whole now.
+    /// Takes the segment for which this was prepared, and returns the packets that are now whole. Nothing may
+    /// have changed since `prepare`.
     /// Cost: n.
     pub fn commit(&mut self, segment: &Segment, prepared: Prepared) -> SmallVec<Vec<u8>, 1>
         requires { IsPrepared self.old (segment_view segment.now) prepared }
@@ -245,7 +246,7 @@ impl Assembler {
             ≡ (step_at self.old (segment_view segment.now)).packets }
         ensures state { self.new ≡ after_step self.old (segment_view segment.now) }
 
-        // Exact assembly, whichever segments led here.
+        // Exact assembly, whichever segments came before.
         ensures exact { (segments : List SegmentView) → HasPartsOf self.old segments
             → IsTakenExactly
             self.new segments (segment_view segment.now) (ready_view result) }
@@ -254,10 +255,10 @@ impl Assembler {
         prepared.packets
     }
 
-    /// The packet that an alone segment is, in the segment's own octets, where `take` would hand out
-    /// just this, drop nothing and change nothing, so that the segment need not be taken: its MAP is
-    /// open and no part is, there is no blocking, and it is exactly one packet of at most `max_packet`
-    /// octets. `None` for any other segment.
+    /// Returns the packet that a segment flagged alone forms, in the segment's own octets, if `take` would
+    /// deliver just this packet, drop nothing and change nothing. The segment then need not be taken. This is
+    /// the case if its MAP is open with no open part, there is no blocking, and its data are exactly one
+    /// packet of at most `max_packet` octets. Returns `None` for any other segment.
     /// Cost: n.
     pub fn lone_packet<'a>(&self, segment: &Segment<'a>) -> Option<&'a [u8]>
         ensures packet { option_map (λ octets. octets.now) result
@@ -276,9 +277,9 @@ impl Assembler {
         Some(segment.payload)
     }
 
-    /// Whether this is an alone segment whose packets are handed out: its MAP is open, and its data are
-    /// exactly one packet of at most `max_packet` octets, or with blocking one or more. Then they may be
-    /// copied from the segment's own octets, and `take_alone` takes it with no memory.
+    /// Returns whether this is a segment flagged alone whose packets are delivered: its MAP is open, and its
+    /// data are exactly one packet of at most `max_packet` octets, or with blocking one or more. The packets
+    /// may then be copied from the segment's own octets, and `take_alone` takes the segment with no memory.
     /// Cost: n.
     pub fn hands_out(&self, segment: &Segment) -> bool
         ensures alone { result ≡ hands_out self.now.limits (segment_view segment.now) }
@@ -289,14 +290,14 @@ impl Assembler {
         self.limits.is_open(header.map) && hands_out(&self.limits, header.flags, segment.payload)
     }
 
-    /// Takes an alone segment whose packets are handed out, as `take` does, but leaves the packets to be
-    /// copied from its octets: says what was dropped.
+    /// Takes a segment flagged alone whose packets are delivered, as `take` does, and returns what was
+    /// dropped. The caller copies the packets from the segment's octets.
     pub fn take_alone(&mut self, segment: &Segment) -> Option<Dropped>
         requires { hands_out self.old.limits (segment_view segment.now) ≡ true }
         ensures dropped { result ≡ (step_at self.old (segment_view segment.now)).dropped }
         ensures state { self.new ≡ after_step self.old (segment_view segment.now) }
 
-        // Exact assembly, whichever segments led here.
+        // Exact assembly, whichever segments came before.
         ensures exact { (segments : List SegmentView) → HasPartsOf self.old segments
             → IsTakenExactly
             self.new segments (segment_view segment.now) (packets_in segment.now.payload.now) }
@@ -306,7 +307,7 @@ impl Assembler {
         dropped
     }
 
-    // Keeps the room of a part that was closed, where there is any.
+    // Keeps the buffer of a closed part, if there is any.
     #[inline(always)]
     fn keep(&mut self, closed: Option<Vec<u8>>)
         requires { HasLongest self.old.limits.max_packet closed }
@@ -317,8 +318,8 @@ impl Assembler {
         }
     }
 
-    // Changes the part that is open on the segment's MAP, where this MAP is open, and hands out the
-    // room of one that is closed.
+    // Changes the open part on the segment's MAP, if this MAP is open, and returns the buffer of a part that
+    // is closed.
     #[inline(always)]
     fn put(
         &mut self,
@@ -342,7 +343,7 @@ impl Assembler {
     }
 }
 
-// The part that is open on a MAP.
+// The open part on a MAP.
 #[inline(always)]
 fn part_on<'a>(parts: &'a [Option<Vec<u8>>], map: u8) -> Option<&'a [u8]>
     ensures { option_copied result ≡ get_or (parts_of parts.now) map None }
@@ -365,7 +366,7 @@ fn is_some_open(parts: &[Option<Vec<u8>>]) -> bool
     false
 }
 
-// How many MAPs there are up to the highest that is open.
+// The number of MAPs up to the highest open MAP.
 fn places(limits: &Limits) -> usize
     ensures most { result ≤ 64 }
     ensures places { HasPlaces limits.now result }
@@ -373,7 +374,7 @@ fn places(limits: &Limits) -> usize
     64 - limits.maps.leading_zeros() as usize
 }
 
-// A list of the parts of all MAPs, of which none is open.
+// A list of the parts of the MAPs up to the highest open MAP, with no part open.
 fn new_list(alloc: Global, limits: &Limits) -> Result<Vec<Option<Vec<u8>>>, AllocError>
     ensures list { IfOk result (λ parts. IsNewList limits.now parts.items) }
     ensures places { IfOk result (λ parts. HasPlaces limits.now (length parts.items)) }
@@ -384,7 +385,7 @@ fn new_list(alloc: Global, limits: &Limits) -> Result<Vec<Option<Vec<u8>>>, Allo
     Ok(parts)
 }
 
-// The list of the parts, where there is none.
+// A list of the parts, if there is none.
 #[inline(always)]
 fn list_for(
     alloc: Global,
@@ -401,7 +402,7 @@ fn list_for(
     new_list(alloc, limits)
 }
 
-// Keeps the list of the parts that was brought, where there is none.
+// Keeps the new list of the parts, if there is none.
 #[inline(always)]
 fn lay(limits: &Limits, parts: &mut Vec<Option<Vec<u8>>>, list: Vec<Option<Vec<u8>>>)
     requires kept { IsPartList limits.now parts.old.items }
@@ -416,8 +417,8 @@ fn lay(limits: &Limits, parts: &mut Vec<Option<Vec<u8>>>, list: Vec<Option<Vec<u
     }
 }
 
-// Changes the part that is open on the segment's MAP, where this MAP is open, and hands out the room
-// of one that is closed.
+// Changes the open part on the segment's MAP, if this MAP is open, and returns the buffer of a part that is
+// closed.
 #[inline(always)]
 fn put_all(
     limits: &Limits,
@@ -448,7 +449,7 @@ fn put_all(
     put_on(limits, parts, map, change, segment.payload)
 }
 
-// Changes the part that is open on a MAP, and hands out the room of one that is closed.
+// Changes the open part on a MAP, and returns the buffer of a part that is closed.
 #[inline(always)]
 fn put_on(
     limits: &Limits,
@@ -474,7 +475,7 @@ fn put_on(
     put(limits, &mut parts[place], change, octets)
 }
 
-// Changes the part, and hands out the room of one that is closed.
+// Changes the part, and returns the buffer of a part that is closed.
 #[inline(always)]
 fn put(
     limits: &Limits,
@@ -501,7 +502,7 @@ fn put(
     }
 }
 
-// The same packets. A list of none takes no memory.
+// The same packets. An empty list takes no memory.
 fn listed(alloc: Global, packets: SmallVec<Vec<u8>, 1>) -> Result<Vec<Vec<u8>>, MapFault>
     ensures packets { IfOk result (λ v. packets_view v ≡ ready_view packets) }
     ensures fault { IfErr result (λ e. e ≡ MapFault.Memory) }
@@ -516,7 +517,7 @@ fn listed(alloc: Global, packets: SmallVec<Vec<u8>, 1>) -> Result<Vec<Vec<u8>>, 
     Ok(list)
 }
 
-// No packet is handed out.
+// No packet is delivered.
 #[inline(always)]
 fn no_packets(alloc: Global, dropped: Option<Dropped>, change: Change) -> Prepared
     ensures dropped { result.dropped ≡ dropped }
@@ -532,7 +533,7 @@ fn no_packets(alloc: Global, dropped: Option<Dropped>, change: Change) -> Prepar
     }
 }
 
-// Room for the longest packet: the spare one, where there is any.
+// Room for the longest packet: the spare buffer, if there is any.
 #[inline(always)]
 fn longest(
     alloc: Global,
@@ -569,7 +570,7 @@ fn begun(
     Ok(part)
 }
 
-// A part and the data of the last segment.
+// A part followed by the data of the last segment.
 #[inline(always)]
 fn joined(alloc: Global, part: &[u8], octets: &[u8]) -> Result<Vec<u8>, AllocError>
     ensures { IfOk result (λ v. v.items ≡ part.now ++ octets.now) }
@@ -606,8 +607,8 @@ fn ended(alloc: Global, limits: &Limits, part: &[u8], octets: &[u8]) -> Result<P
     })
 }
 
-// What comes of a segment. A part is opened in the spare room, where there is any, and comes with a list of the parts,
-// unless there is one.
+// The outcome of a segment. A part is opened in the spare buffer, if there is any, and brings a list of the
+// parts, unless there is one.
 #[inline(always)]
 fn found(
     alloc: Global,
@@ -639,7 +640,7 @@ fn found(
     )
 }
 
-// A segment comes on an open MAP.
+// The outcome of a segment of an open MAP.
 #[inline(always)]
 fn prepared_cell(
     alloc: Global,
@@ -696,7 +697,7 @@ fn prepared_cell(
     }
 }
 
-// Whether the packets of a segment of an open MAP are handed out, where they stand in it.
+// Whether the packets in a segment of an open MAP are delivered from the segment itself.
 fn hands_out(limits: &Limits, flags: SegmentFlags, octets: &[u8]) -> bool
     ensures { result ≡ hands_out_cell limits.now flags octets.now }
 {
@@ -706,7 +707,7 @@ fn hands_out(limits: &Limits, flags: SegmentFlags, octets: &[u8]) -> bool
     }
 }
 
-// Whether a segment of an open MAP is one packet, with no part open.
+// Whether a segment of an open MAP is one packet, and no part is open.
 fn is_lone_packet(limits: &Limits, part: Option<&[u8]>, segment: &Segment) -> bool
     ensures { lone_packet_cell
         limits.now segment.now.header.flags (option_copied part.entry) segment.now.payload.now

@@ -1,4 +1,4 @@
-// Cutting packets into segments, and counting these.
+// Cuts packets into segments, and counts the segments.
 
 ghost use Rattle.std.specs.Prelude.{◌≡◌, ◌≤◌, ◌<◌, ◌++◌, ℕ, [], ◌∷◌, length, take, option_map, Err, None};
 ghost use Rattle.std.specs.Prelude.{IfSome, IfOk, IsOk, IsOkUnless, OnOk, OnErr};
@@ -13,13 +13,13 @@ use crate::packets::cut_fault;
 use space_packet::packet_len;
 use tc_frame::{Segment, SegmentFlags, SegmentHeader};
 
-/// Adds the segments of one packet, or with blocking of one or more packets one after another, on this
-/// MAP, which is below 64 (CCSDS 232.0-B-4, 4.1.3.2.2). They borrow the octets. A packet of more than
-/// `part` octets is cut into parts of exactly `part` octets, the last of 1 to `part`; with blocking
-/// each longest run of other packets, from the left, that have at most `part` octets together goes into
-/// one segment. The first that applies: 1 `NotAPacket` (not exactly one packet, or with blocking not
-/// one or more whole packets), 2 `TooLong` (one over `max_packet`), 3 `Memory`; and then the segments
-/// are as they were.
+/// Adds the segments of one packet, or with blocking of one or more packets one after another, on this MAP,
+/// which is below 64 (CCSDS 232.0-B-4, 4.1.3.2.2). The segments borrow the octets. A packet of more than
+/// `part` octets is cut into parts of exactly `part` octets, except the last, which has 1 to `part`. With
+/// blocking, each longest run of other packets, from the left, with at most `part` octets together goes into
+/// one segment. Refuses, with the first that applies: 1 `NotAPacket` (not exactly one packet, or with
+/// blocking not one or more whole packets), 2 `TooLong` (a packet over `max_packet`), 3 `Memory`. The
+/// segments are then unchanged.
 /// Faults: 1 NotAPacket, 2 TooLong, 3 Memory. Memory: yes. Cost: the number of packets and segments.
 pub fn cut<'a>(
     octets: &'a [u8],
@@ -41,8 +41,8 @@ pub fn cut<'a>(
     cut_packets(octets, map, limits.part as usize, segments)
 }
 
-/// Adds the segments of whole packets, as `cut` does, where it is known that the octets are these. At a
-/// fault the segments are as they were.
+/// Adds the segments of whole packets, as `cut` does, if the octets are known to be whole packets. On a fault
+/// the segments are unchanged.
 /// Faults: 3 Memory. Memory: yes. Cost: the number of packets and segments.
 pub fn cut_packets<'a>(
     octets: &'a [u8],
@@ -70,8 +70,8 @@ pub fn cut_packets<'a>(
     Ok(())
 }
 
-/// The segment that octets are on this MAP, where they have at most `part`: it stands alone. `None` where
-/// they have more.
+/// Returns the octets as one segment on this MAP, flagged alone, if there are at most `part` octets;
+/// otherwise `None`.
 pub fn alone_segment(octets: &[u8], map: u8, part: usize) -> Option<Segment<'_>>
     ensures { option_map segment_view result ≡ alone_segment part map octets.now }
 {
@@ -124,7 +124,7 @@ fn append_parts<'a>(
     append(segment_with(SegmentFlags::Last, map, rest), segments)
 }
 
-// How many octets the longest run of the first packets has.
+// The number of octets in the longest run of the first packets.
 fn run_len(octets: &[u8], part: usize) -> usize
     ensures run { result ≡ length (concat (longest_run part (packets_in octets.now))) }
     ensures within { result ≤ length octets.now }
@@ -141,8 +141,8 @@ fn run_len(octets: &[u8], part: usize) -> usize
     len
 }
 
-/// How many octets the packets have that go into the first segment together, or the first packet
-/// that has more than `part` octets.
+/// Returns the number of octets of the packets that go into the first segment together, or of the first
+/// packet if it has more than `part` octets.
 /// Cost: the number of packets in it.
 pub fn group_len(octets: &[u8], part: usize) -> usize
     requires some_octet { 1 ≤ length octets.now }
@@ -162,7 +162,7 @@ pub fn group_len(octets: &[u8], part: usize) -> usize
     }
 }
 
-/// How many segments `cut` makes of these octets, on any MAP. Refuses as `cut` does.
+/// Returns the number of segments that `cut` makes from these octets, on any MAP. Refuses as `cut` does.
 /// Faults: 1 NotAPacket, 2 TooLong. Cost: the number of packets.
 pub fn segment_count(octets: &[u8], limits: &Limits) -> Result<usize, MapFault>
     requires some_part { 1 ≤ limits.now.part }

@@ -1,4 +1,4 @@
-// The table of the assembler: a segment of an open MAP against the part that is open there.
+// The assembler's table: a segment of an open MAP against the open part there.
 
 ghost use Rattle.std.specs.Prelude.{◌≡◌, true, Some, option_copied, nat_lt, if◌then◌else◌};
 ghost use Rattle.map_service.specs.Packets.{packets_in};
@@ -10,30 +10,31 @@ use crate::limits::Limits;
 use crate::packets::fault_of_alone;
 use tc_frame::SegmentFlags;
 
-/// What is to be done with a segment's data, wherever the open part is kept.
+/// What to do with a segment's data, wherever the open part is kept.
 #[derive(Clone, Copy, Debug, PartialEq, Eq)]
 pub enum Action {
-    /// Nothing is kept or handed out, and no part is open.
+    /// Nothing is kept or delivered, and no part is open afterwards.
     Close,
-    /// The whole packets that the data are, one with no blocking, are handed out; no part is open.
+    /// The data are whole packets (one, if there is no blocking), which are delivered. No part is
+    /// open afterwards.
     HandOut,
-    /// The data are the part that is open.
+    /// The data become the open part.
     Begin,
-    /// The data are added to the part that is open.
+    /// The data are added to the open part.
     Add,
-    /// The data are added to the part that is open, which is handed out where `fault_of_one` finds no
-    /// fault of it; no part is open.
+    /// The data are added to the open part, which is delivered if `fault_of_one` finds no fault in
+    /// it. No part is open afterwards.
     End,
 }
 
-/// The cell of a segment: what is to be done, and what is dropped besides a part that is ended.
+/// The cell of a segment: what to do, and what is dropped apart from a part that is ended.
 #[derive(Clone, Copy, Debug, PartialEq, Eq)]
 pub struct Decision {
     pub action: Action,
     pub dropped: Option<Dropped>,
 }
 
-// The part that is open is dropped, and so are the data.
+// The open part and the data are dropped.
 fn closing(cause: Dropped) -> Decision
     ensures { result ≡ record { action = Action.Close; dropped = Some cause } }
 {
@@ -55,7 +56,7 @@ fn kept(limits: &Limits, len: usize, action: Action, dropped: Option<Dropped>) -
     Decision { action, dropped }
 }
 
-// What a first or an alone segment drops: the part that is open.
+// What a segment flagged first or alone drops: the open part.
 pub(crate) fn interruption(part: Option<&[u8]>) -> Option<Dropped>
     ensures { result ≡ interruption (option_copied part.entry) }
 {
@@ -65,7 +66,7 @@ pub(crate) fn interruption(part: Option<&[u8]>) -> Option<Dropped>
     }
 }
 
-/// Decides what is to be done with a segment's data on an open MAP, by the part that is open.
+/// Decides what to do with a segment's data on an open MAP, given the open part.
 #[inline(always)]
 #[tactic(auto, using(crate::proofs::Handed::handed_out, crate::proofs::Handed::alone_packets_are))]
 pub fn decide(limits: &Limits, flags: SegmentFlags, part: Option<&[u8]>, octets: &[u8]) -> Decision

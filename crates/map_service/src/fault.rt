@@ -12,21 +12,21 @@ pub enum MapFault {
     NotAPacket = 1,
     /// A packet has more octets than `max_packet`.
     TooLong = 2,
-    /// There was no memory.
+    /// Memory ran out.
     Memory = 3,
 }
 
 impl MapFault {
     ghost use Rattle.map_service.specs.Faults.{fault_row};
 
-    /// The fault's number, from 1.
+    /// Returns the fault's number, from 1.
     pub fn number(self) -> u8
         ensures { result ≡ (fault_row self).0 }
     {
         self as u8
     }
 
-    /// The fault's name, as it is written here.
+    /// Returns the fault's name, as it is written here.
     pub fn name(self) -> &'static str
         ensures { result.now ≡ (fault_row self).1 }
     {

@@ -14,8 +14,8 @@ ghost use Rattle.map_service.specs.Cutting.{Submission, IsSubmitted, segments_of
 ghost use Rattle.map_service.specs.Packets.{packets_in, is_packet, are_packets, ArePackets};
 ghost use Rattle.map_service.specs.AssemblerTable.{take_step};
 
-/// Octets are judged to be exactly one packet, or one or more, just where they spell one, or one
-/// after another; and the packets that are found in them are the only ones.
+/// Octets are judged to be one packet exactly when they spell one, and one or more packets exactly when they
+/// spell one or more, one after another. The packets found in them are the only ones.
 pub fn law_of_packets()
     ensures one { (octets : List ℕ) → IsOctets octets → is_packet octets ≡ true
         → IsSomePacket octets }
@@ -26,14 +26,15 @@ pub fn law_of_packets()
         → (are_packets octets ≡ true) × (packets ≡ packets_in octets) }
 {}
 
-/// The packets of a beginning of a list of segments are a beginning of the packets of the list.
+/// What is assembled from a beginning of a list of segments is a beginning of what is assembled from the
+/// list.
 pub fn law_of_beginnings()
     ensures { (limits : Limits) (m : ℕ) (segments more : List SegmentView)
         → IsBeginning (assembled limits m segments) (assembled limits m (segments ++ more)) }
 {}
 
-/// The table says what one more segment adds to a list of segments, and which part is open then on
-/// its MAP. On the others it changes nothing.
+/// The table defines what one more segment adds to a list of segments, and which part is then open on its
+/// MAP. On other MAPs the segment changes nothing.
 pub fn law_of_steps()
     ensures packets { (limits : Limits) (segments : List SegmentView) (s : SegmentView)
         → assembled limits s.header.map (segments ++ s ∷ [])
@@ -50,8 +51,8 @@ pub fn law_of_steps()
         → open_part limits m (segments ++ s ∷ []) ≡ open_part limits m segments }
 {}
 
-/// One packet is one alone segment where it has at most `part` octets, and otherwise is cut in the
-/// only way: all parts but the last have exactly `part` octets, and the last has 1 to `part`.
+/// A packet of at most `part` octets is one segment, flagged alone. A longer packet is cut in the only way in
+/// which all parts except the last have exactly `part` octets, and the last has 1 to `part`.
 pub fn law_of_parts()
     ensures packet { (part m : ℕ) (octets : List ℕ) → is_packet octets ≡ true
         → segments_of part m octets ≡ parts_of part m octets }
@@ -63,8 +64,8 @@ pub fn law_of_parts()
         → IsInParts part m octets segments → segments ≡ parts_of part m octets }
 {}
 
-/// Packets are grouped in the only way in which the groups are these packets in their order, each
-/// fits in a part or is one packet, and the first packet after it would not have fitted into it.
+/// Packets are grouped in the only way in which the groups are these packets in order, each group fits in a
+/// part or is one packet, and the first packet after a group would not have fitted into it.
 pub fn law_of_groups()
     ensures found { (part : ℕ) (packets : List (List ℕ))
         → IsGrouped part packets (groups_of part packets) }
@@ -72,8 +73,8 @@ pub fn law_of_groups()
         → IsGrouped part packets groups → groups ≡ groups_of part packets }
 {}
 
-/// The segments of octets that are cut hold these octets, in their order, and each is on their MAP
-/// with 1 to `part` octets.
+/// The segments of octets that are cut contain these octets, in order. Each segment is on their MAP, with 1
+/// to `part` octets.
 pub fn law_of_segments()
     ensures joined { (limits : Limits) (m : ℕ) (octets : List ℕ)
         → 1 ≤ limits.part → cut_fault limits octets ≡ None
@@ -82,8 +83,8 @@ pub fn law_of_segments()
         → AllByRecursion (IsPart part m) (segments_of part m octets) }
 {}
 
-/// Packets that were cut are assembled again, whatever came before: on an open MAP the segments of
-/// packets add just these packets, and leave no part open. No other MAP sees them.
+/// Packets that were cut are reassembled, whatever came before. On an open MAP the segments of packets add
+/// exactly these packets, and leave no part open. They change nothing on any other MAP.
 pub fn law_of_passage()
     ensures given { (limits : Limits) (m : ℕ) (segments : List SegmentView) (octets : List ℕ)
         → 1 ≤ limits.part → is_open limits m ≡ true → cut_fault limits octets ≡ None
@@ -101,9 +102,9 @@ pub fn law_of_passage()
 {}
 
 #[tactic(auto, using(crate::proofs::Passage::all_assembled, crate::proofs::Passage::all_closed, crate::proofs::Passage::some_assembled))]
-/// What calls handed over is assembled again, whatever MAPs they were on: of all their segments, on
-/// each MAP, just its packets in their order, with no part open; of a beginning of the segments, a
-/// beginning of the packets.
+/// What calls submitted is reassembled, whatever MAPs the calls were on. All their segments yield, on each
+/// MAP, exactly its packets in order, with no part open. A beginning of the segments yields a beginning of
+/// the packets.
 pub fn law_of_histories()
     ensures all { (limits : Limits) (m : ℕ) (submissions : List Submission) → 1 ≤ limits.part
         → AllByRecursion (IsSubmitted limits) submissions

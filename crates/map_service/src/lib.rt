@@ -1,7 +1,8 @@
 //! Packets in segments for each multiplexer access point, MAP (CCSDS 232.0-B-4, 4.1.3.2), with
 //! blocking or without it.
 //!
-//! `cut` makes the segments of packets; an `Assembler` joins the segments of each MAP again.
+//! `cut` makes segments from packets; an `Assembler` joins the segments of each MAP into packets
+//! again.
 #![tactic(auto)]
 
 mod assembler;

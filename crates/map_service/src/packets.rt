@@ -1,4 +1,4 @@
-// Octets as whole packets, one after another: whether they are taken, and the packets that they are.
+// Octets as whole packets, one after another: whether they are accepted, and the packets that they form.
 
 ghost use Rattle.std.specs.Prelude.{◌≡◌, Some, None, length, IfOk, if◌then◌else◌};
 ghost use Rattle.map_service.specs.Cutting.{cut_fault};
@@ -13,7 +13,7 @@ use smallvec::SmallVec;
 use space_packet::{is_packet, packet_len};
 use std::alloc::{AllocError, Global};
 
-// Whether one of the packets that octets are is too long; none where they are not one or more packets.
+// Whether one of the packets that octets form is too long; `None` if they are not one or more packets.
 fn are_packets_over(octets: &[u8], most: usize) -> Option<bool>
     ensures { result ≡ if are_packets octets.now
         then Some (is_some_over most (packets_in octets.now)) else None }
@@ -33,7 +33,7 @@ fn are_packets_over(octets: &[u8], most: usize) -> Option<bool>
     Some(over)
 }
 
-// The same of exactly one packet, or with blocking of one or more.
+// The same for exactly one packet, or with blocking for one or more.
 #[tactic(auto, using(crate::proofs::Whole::one_over))]
 fn are_taken_over(limits: &Limits, octets: &[u8]) -> Option<bool>
     ensures { result ≡ if are_taken limits.now.blocking octets.now
@@ -48,7 +48,7 @@ fn are_taken_over(limits: &Limits, octets: &[u8]) -> Option<bool>
     }
 }
 
-// Why octets are not cut, where they are not.
+// Why octets are not cut, if they are not.
 pub(crate) fn cut_fault(limits: &Limits, octets: &[u8]) -> Option<MapFault>
     ensures { result ≡ cut_fault limits.now octets.now }
 {
@@ -59,7 +59,8 @@ pub(crate) fn cut_fault(limits: &Limits, octets: &[u8]) -> Option<MapFault>
     }
 }
 
-/// Why octets that should be exactly one packet are dropped, where they are: `TooLong`, then `NotAPacket`.
+/// Returns why octets that should be exactly one packet are dropped, if they are: `TooLong`, then
+/// `NotAPacket`.
 pub fn fault_of_one(limits: &Limits, octets: &[u8]) -> Option<Dropped>
     ensures { result ≡ one_fault limits.now octets.now }
 {
@@ -72,7 +73,7 @@ pub fn fault_of_one(limits: &Limits, octets: &[u8]) -> Option<Dropped>
     None
 }
 
-// Why the octets of an alone segment are dropped, where they are.
+// Why the octets of a segment flagged alone are dropped, if they are.
 pub(crate) fn fault_of_alone(limits: &Limits, octets: &[u8]) -> Option<Dropped>
     ensures { result ≡ alone_fault limits.now octets.now }
 {
@@ -86,8 +87,8 @@ pub(crate) fn fault_of_alone(limits: &Limits, octets: &[u8]) -> Option<Dropped>
     }
 }
 
-// The packets of an alone segment of which there is no fault, each copied: its octets, or with blocking
-// the packets that they are.
+// Copies the packets of a segment that is flagged alone and has no fault: its octets, or with blocking the
+// packets that they form.
 pub(crate) fn copied_packets(
     alloc: Global,
     limits: &Limits,
@@ -103,7 +104,7 @@ pub(crate) fn copied_packets(
     Ok(packets)
 }
 
-// How many packets octets are, one after another, as far as they are whole.
+// The number of packets that octets form, one after another, as far as they are whole.
 fn number_of_packets(octets: &[u8]) -> usize
     ensures { result ≡ length (packets_in octets.now) }
 {
@@ -116,8 +117,8 @@ fn number_of_packets(octets: &[u8]) -> usize
     number
 }
 
-// The packets that octets are, one after another, as far as they are whole, each copied. Their list is made once, for
-// all of them.
+// Copies each of the packets that octets form, one after another, as far as they are whole. Their list is
+// allocated once, for all of them.
 fn each_copied(alloc: Global, octets: &[u8]) -> Result<SmallVec<Vec<u8>, 1>, AllocError>
     ensures { IfOk result (λ v. ready_view v ≡ packets_in octets.now) }
 {

@@ -1,4 +1,4 @@
--- What comes of what a node may be asked: octets that are sent, numbers, and refusals.
+-- The outcomes of a node's asks: octets that are sent, numbers, and refusals.
 use Rattle.std.proofs.Common.{refl, ◌≡◌, Option, Some, None, is_some, true, ◌≤◌, ◌-◌, ℕ, List, ◌++◌, length, take, drop}
 use Rattle.std.proofs.Common.{sym, ap, ◌∙◌, arith, length-append, length-drop, length-take, ◌≢◌, Result, Ok, Err}
 use Rattle.std.proofs.Common.{IfSome, OnOk, OnErr, IsOkUnless, String, codes}
@@ -22,9 +22,9 @@ use Rattle.node_lines.specs.Nodes.{Turn, NodeRules, turned, Takes}
 use Rattle.node_lines.specs.Player.{asked_step, made_step}
 use Rattle.node_lines.specs.Ground.{pulled_text, done_text}
 
--- What comes of what a node may be asked.
+-- The outcomes of a node's asks.
 
--- what is asked first, of a node that is made of this configuration
+-- the first ask, of a node that is made from this configuration
 pub first_as : {S : Type 0} (rules : NodeRules S) (cause : List ℕ) (p : NodePlayer S) (c : Config)
     (o : Option (S → Turn S)) → p ≡ Configured c → is_some o ≡ true
     → asked_step rules cause p o ≡ made_step rules c (config_fault c) (turned o)
@@ -33,7 +33,7 @@ first_as rules cause p c (Some turn) is takes = rw is refl
 
 -- The octets of a frame that is sent.
 
--- what was written over the first octets is the first octets
+-- the octets that were written over the first ones are now the first ones
 pub front_is : (n : ℕ) (out front old : List ℕ) → out ≡ front ++ drop n old → length out ≡ length old → n ≤ length old
     → take n out ≡ front
 front_is n out front old written same within =
@@ -55,7 +55,7 @@ short f out long is =
     ∙ ap (λ (n : ℕ). n - 4) (length-take (length b - 2) b ∙ omega arith) in
     omega (arith, body, is.total)
 
--- the octets that are handed out are those of the frame
+-- the octets that are returned are those of the frame
 pub pulled : (answer : Option FrameView) (count : ℕ) (out old : List ℕ) → Some count ≡ size_of answer
     → out ≡ written_over old answer → BeginsWith out answer → length out ≡ 1024 → length old ≡ 1024
     → pulled_text answer ≡ sent_text (take count out)
@@ -73,7 +73,7 @@ submitting fault s next = record {
   after = (unless_refused fault s next).after;
 }
 
--- a refusal that is not for want of memory is the one that the ground has for it
+-- a refusal for another reason than memory is the one that the ground has for it
 reason : (fault : Option LinkFault) (r : Result (Unit {0}) LinkFault) (e : LinkFault) → r ≡ Err e
     → IfSome fault (λ f. r ≡ Err f) → (fault ≡ None → IsOkUnless r Memory) → e ≢ Memory → fault ≡ Some e
 reason fault r e is why lacks known = grind (arith, is, why, lacks, known)

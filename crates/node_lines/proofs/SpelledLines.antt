@@ -1,4 +1,4 @@
--- A line that is spelled is read so, and a line that is read is spelled so.
+-- A line that spells something is read as that, and a line that is read as something spells it.
 use Rattle.std.proofs.Common.{◌≡◌, ◌∙◌, ◌≤◌, ◌<◌, ◌^◌, ℕ, zero, suc, true, List, [], ◌∷◌, ◌++◌, Option, Some, refl, sym}
 use Rattle.std.proofs.Common.{ap, arith, leb, ◌==◌, Bool, false, cond, None, inl, inr, subst}
 use Rattle.std.specs.Prelude.{◌⊎◌, codes, decimal, length, map, slice_index_or, ◌↔◌, option_map, option_and_then}
@@ -23,7 +23,7 @@ use Rattle.node_lines.specs.Spelling.{Spells, Follows}
 use Rattle.streams.proofs.SpelledWords.{spelled_octets, printed, is_word, number_word, hex_word, spelled_two, read_two}
 use Rattle.streams.proofs.SpelledWords.{begins, read_octets, read, mapped, chained}
 
--- A line that is spelled is read so.
+-- A line that spells something is read as that.
 
 -- ---- settings
 
@@ -66,7 +66,7 @@ is_small form = true
 small : (words : List ℕ) (form : Form) → Contains worded_asks (words, form) → is_small form ≡ true
 small words form has = agree (λ row. is_small row.1) (λ row. true) worded_asks (words, form) refl has
 
--- a line that begins with a row's words says what stands after them
+-- the meaning of a line that begins with a row's words, from what follows them
 said_after : (words : List ℕ) (form : Form) (rest : List ℕ) → Contains worded_asks (words, form)
     → line_in (words ++ rest) ≡ unwrap_or (option_map Asking (ask_after form rest)) Unreadable
 unfolding rest_after
@@ -95,7 +95,7 @@ spelled (spelling.worded words form ask rest has follows) =
     ∙ ap (λ o. unwrap_or (option_map Asking o) Unreadable) (followed (small words form has) follows)
 spelled (spelling.config p n fits) = ap (λ o. unwrap_or o Unreadable) (set p n (least_most p n fits))
 
--- A line that is read is spelled so.
+-- A line that is read as something spells it.
 
 -- ---- what is found
 
@@ -232,7 +232,7 @@ spells (octet ∷ more) what e readable = by_first octet more what (octet == 35)
 unspelled : {line : List ℕ} → Spells Unreadable line → ⊥
 unspelled spells = elim spells [ ]
 
--- a line says what it spells, and nothing else that is readable
+-- a line is read as what it spells, and as nothing else that is readable
 pub says : (line : List ℕ) (what : LineView) → Spells what line ↔ ((line_in line ≡ what) × (what ≡ Unreadable → ⊥))
 says line what = (λ it. (spelled it, λ e. unspelled (subst (λ w. Spells w line) e it)), λ e. spells line what e.0 e.1)
 
@@ -241,7 +241,7 @@ unreadable_as : (line : List ℕ) (what : LineView) → line_in line ≡ what
 unreadable_as line Unreadable e none = refl
 unreadable_as line what e none = absurd (none what (spells line what e (λ no. cc no)))
 
--- a line is unreadable where it spells nothing
+-- a line is unreadable exactly when it spells nothing
 pub unreadable : (line : List ℕ) → (line_in line ≡ Unreadable) ↔ ((what : LineView) → Spells what line → ⊥)
 unreadable line = (
   λ e what it. unspelled (subst (λ w. Spells w line) (sym (spelled it) ∙ e) it),

@@ -25,12 +25,12 @@ use Rattle.nodes.specs.Packets.{PacketOn}
 abbrev pub fault_text : List ℕ → ℕ × List ℕ → List ℕ
 fault_text word (number, name) = word ++ (codes " " ++ (decimal number ++ (codes " " ++ name)))
 
--- a word and a name, where there is one
+-- a word and a name, if there is one
 abbrev pub named_text : List ℕ → Option (List ℕ) → List ℕ
 named_text word None = []
 named_text word (Some name) = word ++ name
 
--- ---- what goes out of a node
+-- ---- what a node sends out
 
 abbrev pub sent_text : List ℕ → List ℕ
 sent_text octets = codes "sent " ++ encode_upper octets
@@ -38,14 +38,14 @@ sent_text octets = codes "sent " ++ encode_upper octets
 abbrev pub packet_text : PacketOn → List ℕ
 packet_text p = codes "packet " ++ (decimal p.on_map ++ (codes " " ++ encode_upper p.octets))
 
--- a report's octets, of which there are always four
+-- the octets of a CLCW, always four
 abbrev pub report_text : Result (List ℕ) ClcwFault → List ℕ
 report_text (Ok octets) = encode_upper octets
 report_text (Err fault) = []
 
 -- ---- what a spacecraft makes of octets
 
--- that packets are ready, and how many where there are several
+-- that packets are ready, and how many if there are several
 abbrev pub ready_text : ℕ → List ℕ
 ready_text ready =
     if ready == 0 then [] else if ready == 1 then codes " ready" else codes " ready "
@@ -82,12 +82,12 @@ heard_text (hearing.Frame gap packets report alert) =
     codes "gap=" ++ (frame_gap_text gap
     ++ (codes " packets=" ++ (decimal packets ++ alert_text alert)))
 
--- the alert that came with a tick, or else that all is done
+-- the alert that came, or else that the call is done
 abbrev pub tick_text : Option Alert → List ℕ
 tick_text None = codes "ok"
 tick_text (Some alert) = codes "alert " ++ (alert_row alert).1
 
--- what becomes of a control word by itself, and the alert that it gives
+-- what the ground does with a CLCW that arrives by itself, and the alert that it raises
 abbrev pub reported_text : HeardReport → Option Alert → List ℕ
 reported_text Used alert = tick_text alert
 reported_text (Refused fault) alert = fault_text (codes "invalid") (clcw.fault_row fault)

@@ -5,7 +5,8 @@ use Rattle.std.specs.List.{ends_with, starts_with}
 use Rattle.std.specs.Str.{bytes_eq}
 use Rattle.streams.specs.Words.{words_in}
 
--- the first words of lines of scripts and of nodes, each with what a line that begins so is not
+-- the first words of lines of scripts and of nodes, each with the cause if a line that begins with
+-- it is unreadable
 abbrev pub forms : List (List ℕ × List ℕ)
 forms =
     (codes "config", codes "it is not config FIELD N, before all others")
@@ -35,7 +36,7 @@ forms =
     ∷ (codes "help", codes "it is for a node alone, as help")
     ∷ []
 
--- what a line is not whose first word is this
+-- the cause for a line whose first word is this
 abbrev pub cause_by : List (List ℕ × List ℕ) → List ℕ → List ℕ
 cause_by [] word = codes "no line begins with its first word"
 cause_by (row ∷ more) word = if bytes_eq word row.0 then row.1 else cause_by more word
@@ -44,7 +45,7 @@ abbrev pub first_of : List (List ℕ) → List ℕ
 first_of [] = []
 first_of (word ∷ words) = word
 
--- why a line is unreadable, where it is
+-- why a line is unreadable, if it is
 abbrev pub cause_in : List ℕ → List ℕ
 cause_in line =
     if ends_with nat_eq line (13 ∷ []) then codes "it ends with a carriage return"

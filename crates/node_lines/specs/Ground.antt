@@ -1,4 +1,4 @@
--- A ground that is played line by line: what is answered to each line.
+-- A ground that is run line by line: the answer to each line.
 use Rattle.std.specs.Prelude.{ℕ, ◌==◌, if◌then◌else◌, List, ◌++◌, length, codes, decimal, Option}
 use Rattle.std.specs.Prelude.{Some, None, Result, Ok, Err}
 use Rattle.hex.specs.Hex.{encode_upper}
@@ -55,7 +55,7 @@ ground_call event text s = record {
   after = (ground_step s event).after;
 }
 
--- ---- how the ground stands
+-- ---- the state of the ground
 
 -- how far its submissions have come
 abbrev pub submissions_text : GroundState → List ℕ
@@ -64,23 +64,22 @@ submissions_text s = codes " submitted=" ++ (decimal (submitted s.fates)
     ++ (codes " acknowledged=" ++ (decimal (whole_with 0 s.fates)
     ++ (codes " outstanding=" ++ decimal (length (outstanding s))))))))
 
--- its sender
+-- the state of its sender
 abbrev pub sender_text : GroundState → List ℕ
 sender_text s = codes "state=" ++ (fop_mode_name s.fop.state
     ++ (codes " vs=" ++ (decimal s.fop.vs ++ (codes " nn=" ++ decimal s.fop.nn))))
 
--- the ticks that are left of its timer, where this runs
+-- the ticks that are left on its timer, if the timer runs
 abbrev pub timer_text : Option ℕ → List ℕ
 timer_text None = codes "off"
 timer_text (Some ticks) = decimal ticks
 
--- how often it has sent, and its timer
+-- its transmission count, and its timer
 abbrev pub count_text : GroundState → List ℕ
 count_text s =
     codes " count=" ++ (decimal s.fop.count ++ (codes " timer=" ++ timer_text s.fop.ticks))
 
--- the segments that are to be sent again, and what was not sent: segments, and packets past the
--- sequence control
+-- the segments that must be retransmitted, and what was not sent: segments, and packets by bypass
 abbrev pub queues_text : GroundState → List ℕ
 queues_text s = codes " due=" ++ (decimal (length (due_units s.fop.sent))
     ++ (codes " unsent=" ++ (decimal (length (unsent_segments s))
@@ -89,7 +88,7 @@ queues_text s = codes " due=" ++ (decimal (length (due_units s.fop.sent))
 abbrev pub ground_show : GroundState → List ℕ
 ground_show s = sender_text s ++ (count_text s ++ (queues_text s ++ submissions_text s))
 
--- ---- what is asked of a ground; a control word has four octets
+-- ---- the asks of a ground; a CLCW has four octets
 
 abbrev pub ground_asked : AskView → Option (GroundState → Turn GroundState)
 ground_asked (Happening (events.Submit m octets)) =

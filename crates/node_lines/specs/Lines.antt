@@ -1,4 +1,4 @@
--- What each line says, of a script or to a node.
+-- The meaning of each line of a script or for a node.
 use Rattle.std.specs.Prelude.{◌≤◌, ℕ, max, ◌==◌, if◌then◌else◌, List, [], ◌∷◌, codes, Option}
 use Rattle.std.specs.Prelude.{Some, None, option_map, option_and_then, unwrap_or}
 use Rattle.std.specs.Map.{lookup}
@@ -20,14 +20,14 @@ use Rattle.streams.specs.Words.{after_words, octets_of_digits}
 
 -- what a line asks of a node, or of the simulated link
 pub data AskView : Type 0 where
-  -- an event; at one node `Telemetry` is, of a ground, that these octets come as telemetry; of a
-  -- spacecraft, that this packet is queued
+  -- an event; at a single ground, `Telemetry` means that these octets arrive as telemetry, and at a
+  -- single spacecraft that this packet is queued
   Happening : Event → AskView
-  -- these octets come as a telecommand frame
+  -- these octets arrive as a telecommand frame
   Frame : (octets : List ℕ) → AskView
-  -- these octets come as a control word by itself
+  -- these octets arrive as a CLCW by itself
   ControlWord : (octets : List ℕ) → AskView
-  -- how the node stands, or the records of the link, are shown
+  -- the node shows its state, or the link its records
   Show : AskView
 
 pub data LineView : Type 0 where
@@ -76,11 +76,11 @@ plain_asks =
     ∷ (codes "terminate", directed directives.Terminate)
     ∷ event_asks
 
--- ---- lines that begin with words and go on with a number or octets
+-- ---- lines that begin with words and continue with a number or octets
 
--- how a line goes on after its words, and what it asks
+-- how a line continues after its words, and what it asks
 pub data Form : Type 0 where
-  -- a number up to the greatest one
+  -- a number, at most this one
   Number : (most : ℕ) → (ℕ → AskView) → Form
   Octets : (List ℕ → AskView) → Form
   -- the number of a MAP, and octets
@@ -107,7 +107,7 @@ worded_asks =
     ∷ (codes "clcw ", Octets ControlWord)
     ∷ numbered_asks
 
--- what is asked by what stands after the words
+-- what a line asks, from what follows its words
 abbrev pub ask_after : Form → List ℕ → Option AskView
 ask_after (Number most ask) rest = option_map ask (number_in_word most rest)
 ask_after (Octets ask) rest = option_map ask (octets_in_word rest)
@@ -115,7 +115,7 @@ ask_after (Submission ask) rest =
     option_and_then (λ two. option_and_then (λ map. option_map (ask map) (octets_in_word two.1))
     (number_in_word 255 two.0)) (two_words rest)
 
--- what is asked by the first row with whose words a line begins
+-- what a line asks, from the first row whose words it begins with
 abbrev pub ask_by : List (List ℕ × Form) → List ℕ → Option AskView
 ask_by [] line = None
 ask_by (row ∷ more) line =
@@ -126,8 +126,8 @@ ask_in line = option_or (lookup (bytes_eq line) plain_asks) (ask_by worded_asks 
 
 -- ---- settings
 
--- the greatest number that is readable for a parameter: 65,542, or the most of its range where
--- that is more
+-- the greatest readable number for a parameter: 65,542, or the maximum of its range if that is
+-- greater
 abbrev pub most_for : Parameter → ℕ
 most_for parameter = max (row_of parameter).most 65542
 
@@ -152,7 +152,7 @@ line_in (octet ∷ more) =
 
 -- ---- a line as the code has it: its octets are still digits
 
--- the octets that an ask carries, or the digits in their place; none where it carries none
+-- the octets that an ask carries, or their digits instead; none if it carries none
 abbrev pub octets_in : code.Ask → List ℕ
 octets_in (asks.Happening (events.Submit m octets)) = octets.now
 octets_in (asks.Happening (events.Bypass m octets)) = octets.now
@@ -164,7 +164,7 @@ octets_in (asks.Frame octets) = octets.now
 octets_in (asks.ControlWord octets) = octets.now
 octets_in asks.Show = []
 
--- an ask with these octets in place of its own
+-- an ask with these octets instead of its own
 abbrev pub ask_with : code.Ask → List ℕ → AskView
 ask_with (asks.Happening (events.Submit m old)) octets =
     Happening (events.Submit m (borrow_of octets))
@@ -181,11 +181,11 @@ ask_with (asks.Frame old) octets = Frame octets
 ask_with (asks.ControlWord old) octets = ControlWord octets
 ask_with asks.Show octets = Show
 
--- an ask wherever its octets lie in memory
+-- an ask, wherever its octets lie in memory
 abbrev pub ask_view : code.Ask → AskView
 ask_view ask = ask_with ask (octets_in ask)
 
--- where it has digits in place of octets
+-- an ask that has digits instead of octets
 abbrev pub ask_said : code.Ask → AskView
 ask_said ask = ask_with ask (octets_of_digits (octets_in ask))
 
@@ -196,7 +196,7 @@ line_view (lines.Asking ask) = Asking (ask_said ask)
 line_view lines.Helping = Helping
 line_view lines.Unreadable = Unreadable
 
--- what is read fits: a parameter's number is no greater than its most
+-- what is read is in range: a parameter's number is at most its greatest readable number
 abbrev pub IsWellRead : code_line.Line → Type 0
 IsWellRead (lines.Setting parameter n) = n ≤ most_for parameter
 IsWellRead line = Unit {0}

@@ -1,4 +1,4 @@
--- A spacecraft that is played line by line: what is answered to each line.
+-- A spacecraft that is run line by line: the answer to each line.
 use Rattle.std.specs.Prelude.{ℕ, List, ◌++◌, codes, decimal, length, Option, Some, None, Result}
 use Rattle.std.specs.Prelude.{Ok, Err}
 use Rattle.clcw.specs.Encoding.{encode_answer}
@@ -41,9 +41,9 @@ spacecraft_call event text s = record {
   after = (spacecraft_step s event).after;
 }
 
--- ---- how the spacecraft stands
+-- ---- the state of the spacecraft
 
--- the control word that its next telemetry frame carries
+-- the CLCW that its next telemetry frame carries
 abbrev pub word_text : SpacecraftState → List ℕ
 word_text s =
     codes "report " ++ report_text (encode_answer (report_of s.farm s.config.vcid))
@@ -67,7 +67,7 @@ waiting_text s = codes " ready=" ++ (decimal (length s.ready)
 abbrev pub spacecraft_show : SpacecraftState → List ℕ
 spacecraft_show s = receiver_text s.farm ++ (farm_flags_text s.farm ++ waiting_text s)
 
--- ---- what is asked of a spacecraft
+-- ---- the asks of a spacecraft
 
 abbrev pub spacecraft_asked : AskView → Option (SpacecraftState → Turn SpacecraftState)
 spacecraft_asked (Happening (events.Telemetry packet)) =

@@ -7,8 +7,8 @@ use Rattle.streams.specs.Hex.{IsHex}
 use Rattle.node_lines.specs.Lines.{AskView, LineView, Skipped, Setting, Asking, Helping}
 use Rattle.node_lines.specs.Lines.{Form, Number, Octets, Submission, plain_asks, worded_asks}
 
--- what stands after a line's words, by its form, where the line asks this. Numbers are spelled as
--- they are printed.
+-- what follows a line's words, by its form, if the line asks this. Numbers are spelled as they are
+-- printed.
 pub data Follows : Form → AskView → List ℕ → Type 0 where
   number : {most : ℕ} {ask : ℕ → AskView} (x : ℕ) → x ≤ most
       → Follows (Number most ask) (ask x) (decimal x)
@@ -18,7 +18,8 @@ pub data Follows : Form → AskView → List ℕ → Type 0 where
       → map ≤ 255 → Follows (Octets (ask map)) said rest
       → Follows (Submission ask) said (decimal map ++ (codes " " ++ rest))
 
--- The lines that say a thing. Each parameter has the numbers up to 65,542 and those of its range.
+-- The lines that spell each meaning. Each parameter takes the numbers up to 65,542 and those of its
+-- range.
 pub data Spells : LineView → List ℕ → Type 0 where
   empty : Spells Skipped []
   note : (text : List ℕ) → Spells Skipped (codes "#" ++ text)

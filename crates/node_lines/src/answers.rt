@@ -32,7 +32,7 @@ pub fn push_digits(text: &mut String, alloc: Global, octets: &[u8]) -> Result<()
     text.push_str(digits.as_str())
 }
 
-/// Appends a word and a name, where there is one.
+/// Appends a word and a name, if there is one.
 /// Faults: AllocError. Memory: yes. Cost: n*.
 pub fn push_named(text: &mut String, word: &str, name: Option<&str>) -> Result<(), AllocError>
     ensures { Appends result text.old text.new
@@ -67,7 +67,7 @@ pub fn push_packet(
     push_digits(text, alloc, octets)
 }
 
-/// Appends the alert that came, or else that all is done.
+/// Appends the alert that came, or else that the call is done.
 /// Faults: AllocError. Memory: yes. Cost: 1*.
 pub fn push_alert(text: &mut String, alert: Option<Alert>) -> Result<(), AllocError>
     ensures { Appends result text.old text.new (tick_text alert) }
@@ -144,7 +144,7 @@ pub fn push_heard(text: &mut String, heard: &Heard) -> Result<(), AllocError>
     }
 }
 
-/// Appends what a ground makes of a control word that came by itself.
+/// Appends what a ground makes of a CLCW that arrived by itself.
 /// Faults: AllocError. Memory: yes. Cost: 1*.
 pub fn push_reported(text: &mut String, heard: HeardClcw) -> Result<(), AllocError>
     ensures { Appends result text.old text.new (reported_text heard.report heard.alert) }
@@ -156,7 +156,7 @@ pub fn push_reported(text: &mut String, heard: HeardClcw) -> Result<(), AllocErr
     }
 }
 
-/// Appends the octets of a report.
+/// Appends `report` and the octets of a CLCW.
 /// Faults: AllocError. Memory: yes. Cost: 1*.
 pub fn push_report(text: &mut String, alloc: Global, report: &Clcw) -> Result<(), AllocError>
     ensures { Appends result text.old text.new

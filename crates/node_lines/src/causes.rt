@@ -5,7 +5,7 @@ ghost use Rattle.node_lines.specs.Causes.{cause_by, cause_in, forms};
 
 use streams::{cut, is};
 
-// What a line is not whose first word is this.
+// Returns the cause for a line whose first word is this.
 fn cause_by_word(word: &[u8]) -> &'static str
     ensures { result.now ≡ cause_by forms word.now }
 {
@@ -78,7 +78,7 @@ fn cause_by_word(word: &[u8]) -> &'static str
     "no line begins with its first word"
 }
 
-/// Why a line of a script or for a node is unreadable, where it is.
+/// Returns why a line of a script or for a node is unreadable, if it is.
 pub fn cause_in(line: &[u8]) -> &'static str
     ensures { result.now ≡ cause_in line.now }
 {

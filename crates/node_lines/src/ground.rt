@@ -1,4 +1,4 @@
-// A ground, played line by line.
+// A ground that is run line by line.
 
 ghost use Rattle.std.specs.Prelude.{◌≡◌, ◌≢◌, ◌++◌, codes, OnOk, None, Some};
 ghost use Rattle.octets.specs.Beginning.{Appends};
@@ -71,7 +71,7 @@ impl Node for Ground {
     }
 }
 
-// Appends why the ground refused a call. Want of memory is no answer.
+// Appends why the ground refused a call. Out of memory is not an answer.
 fn push_refusal(text: &mut String, fault: LinkFault) -> Result<(), AllocError>
     ensures text { Appends result text.old text.new
         (fault_text (codes "refused") (link.fault_row fault)) }
@@ -159,7 +159,7 @@ fn telemetry(node: &mut Ground, text: &mut String, octets: &[u8]) -> Result<(), 
     }
 }
 
-// Octets come as a control word, if they are four.
+// Gives octets to the ground as a CLCW, if there are four.
 fn control_word(node: &mut Ground, text: &mut String, octets: &[u8]) -> Result<(), AllocError>
     ensures { Takes (turned (ground_asked (ControlWord octets.now)) node.old) result
         text.old text.new node.new }

@@ -1,9 +1,10 @@
-//! The lines of scripts and of nodes, as docs/PROFILE.md has them ("Scripts of the simulated link" and "One
-//! node, line by line"): what each says, what a node answers to it, and a node that is played line by line.
+//! The lines of scripts and of nodes, as docs/PROFILE.md defines them ("Scripts of the simulated link" and
+//! "One node, line by line"): the meaning of each line, a node's answer to it, and a node that is run line
+//! by line.
 //!
-//! `read_line` reads what a line says. A `NodePlayer` makes its `Node` at the first line that asks something
-//! of it, and answers each line by one: so any program drives a ground or a spacecraft by a pipe. There are
-//! no devices here.
+//! `read_line` reads a line. A `NodePlayer` makes its `Node` at the first line that asks something of it,
+//! and answers each line with at most one line. So any program can drive a ground or a spacecraft through a
+//! pipe. This crate uses no devices.
 #![tactic(auto)]
 
 mod answers;

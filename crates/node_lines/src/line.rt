@@ -1,4 +1,4 @@
-// What a line says, of a script or to a node.
+// The meaning of a line of a script or for a node.
 
 ghost use Rattle.std.specs.Prelude.{◌≡◌};
 ghost use Rattle.streams.specs.Words.{octets_of_digits};
@@ -9,17 +9,17 @@ use nodes::{Event, Parameter};
 /// What a line asks of a node, or of the simulated link.
 #[derive(Clone, Copy, Drop)]
 pub enum Ask<'a> {
-    /// An event happens. To a ground `Telemetry` is octets that come as a telemetry frame.
+    /// An event happens. At a ground, `Telemetry` means octets that arrive as a telemetry frame.
     Happening(Event<'a>),
-    /// Octets come as a telecommand frame.
+    /// Octets arrive as a telecommand frame.
     Frame(&'a [u8]),
-    /// Octets come as a control word by itself.
+    /// Octets arrive as a CLCW by itself.
     ControlWord(&'a [u8]),
-    /// How the node stands, or the records of the link, are shown.
+    /// The node shows its state, or the link its records.
     Show,
 }
 
-/// What a line says. An ask that carries octets has their digits in place of them.
+/// The meaning of a line. An ask that carries octets has their digits instead.
 #[derive(Clone, Copy, Drop)]
 pub enum Line<'a> {
     /// It is empty, or a note.
@@ -34,7 +34,7 @@ pub enum Line<'a> {
     Unreadable,
 }
 
-/// The octets of an ask, or the digits in place of them; none where it carries none.
+/// Returns the octets of an ask, or their digits instead; none if it carries none.
 pub fn octets_in(ask: Ask<'_>) -> &[u8]
     ensures { result.now ≡ octets_in ask.entry }
 {
@@ -51,7 +51,7 @@ pub fn octets_in(ask: Ask<'_>) -> &[u8]
     }
 }
 
-/// The ask with the octets that its digits are.
+/// Returns the ask with the octets that its digits spell.
 pub fn with_octets<'a>(ask: Ask<'a>, octets: &'a [u8]) -> Ask<'a>
     requires { octets.now ≡ octets_of_digits (octets_in ask) }
     ensures { ask_view result ≡ ask_said ask.entry }

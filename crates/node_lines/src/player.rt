@@ -1,4 +1,4 @@
-// Plays a node line by line.
+// Runs a node line by line.
 
 ghost use Rattle.std.specs.Prelude.{◌≡◌, ◌≤◌, ◌++◌, ◌∷◌, [], codes, true, false, OnOk, IfOk};
 ghost use Rattle.octets.specs.Beginning.{Appends};
@@ -16,7 +16,7 @@ use std::alloc::{AllocError, Global};
 use std::fmt::Write;
 use streams::{Player, octets_of_digits};
 
-/// A node that is played line by line: before it is made its configuration, and then itself.
+/// A node that is run line by line: its configuration until it is made, and then the node itself.
 #[derive(Drop)]
 pub enum NodePlayer<N> {
     Configured(Config),
@@ -28,7 +28,7 @@ impl<N: Node + Drop> NodePlayer<N> {
     ghost use Rattle.node_lines.specs.declared.player.NodePlayer.TheVariants.{Configured};
     ghost use Rattle.nodes.specs.Parameters.{config_fault};
 
-    /// A player of the default configuration, whose node is not made.
+    /// Creates a player of the default configuration, whose node is not made yet.
     pub fn new() -> NodePlayer<N>
         ensures { result ≡ fresh_player }
     {
@@ -56,7 +56,8 @@ impl<N: Node + Drop> NodePlayer<N> {
         }
     }
 
-    // Asks the node, which is made first where it is not. What it does not take is unreadable, for this cause.
+    // Asks the node, and makes it first if necessary. What the node does not take is unreadable, for this
+    // cause.
     fn ask(
         &mut self,
         alloc: Global,
@@ -83,8 +84,8 @@ impl<N: Node + Drop> NodePlayer<N> {
         }
     }
 
-    // Makes the node of a configuration and asks it, if each field is in its range. A call of its own, since
-    // it takes room for a node that is moved, which no later line needs.
+    // Makes the node from a configuration and asks it, if each field is in range. It is a call of its own,
+    // since it takes room for moving a node, which no later line needs.
     #[inline(never)]
     fn ask_first(
         &mut self,
@@ -112,7 +113,7 @@ impl<N: Node + Drop> NodePlayer<N> {
         }
     }
 
-    // Asks the node, by digits in place of octets.
+    // Asks the node, with digits instead of octets.
     fn ask_digits(
         &mut self,
         alloc: Global,
@@ -151,7 +152,7 @@ impl<N: Node + Drop> Player<String> for NodePlayer<N> {
     }
 }
 
-// Whether an event on the way between two nodes is asked.
+// Returns whether the ask is an event on the link between two nodes.
 fn is_of_a_link(ask: Ask<'_>) -> bool
     ensures { result ≡ is_of_a_link (ask_said ask.entry) }
 {
@@ -165,7 +166,7 @@ fn is_of_a_link(ask: Ask<'_>) -> bool
     }
 }
 
-// Why an ask of this line is unreadable that a node does not take.
+// Returns why an ask of this line that a node does not take is unreadable.
 fn other_cause(ask: Ask<'_>, line: &[u8], others: &'static str) -> &'static str
     ensures { result.now ≡ other_cause (ask_said ask.entry) line.now others.now }
 {

@@ -1,4 +1,4 @@
-// Reads what a line says.
+// Reads lines.
 
 ghost use Rattle.std.specs.Prelude.{◌≡◌, map, option_map, Some, IfSome};
 ghost use Rattle.std.specs.Map.{lookup};
@@ -12,7 +12,7 @@ use cop1::Directive;
 use nodes::{Event, Parameter};
 use streams::{is, is_octets, number_in_word, rest_after, two_words};
 
-/// What a line says, of a script or to a node. The octets that it carries are lent as digits.
+/// Reads a line of a script or for a node. The octets that it carries are lent as digits.
 /// Cost: n.
 pub fn read_line(line: &[u8]) -> Line<'_>
     ensures line { line_view result ≡ line_in line.now }
@@ -33,14 +33,14 @@ pub fn read_line(line: &[u8]) -> Line<'_>
     }
 }
 
-// The greatest number that is readable for a parameter.
+// Returns the greatest readable number for a parameter.
 fn most_for(parameter: Parameter) -> u64
     ensures { result ≡ most_for parameter }
 {
     parameter.most().max(65542)
 }
 
-// The line of a parameter's name and its value.
+// Returns the line of a parameter's name and its value.
 fn setting_in<'a>(rest: &[u8]) -> Option<Line<'a>>
     ensures line { option_map line_view result ≡ setting_in rest.now }
     ensures fits { IfSome result IsWellRead }
@@ -51,7 +51,7 @@ fn setting_in<'a>(rest: &[u8]) -> Option<Line<'a>>
     Some(Line::Setting(parameter, number))
 }
 
-// What a line asks.
+// Returns what a line asks.
 fn ask_in(line: &[u8]) -> Option<Ask<'_>>
     ensures { option_map ask_said result ≡ ask_in line.now }
 {
@@ -67,7 +67,7 @@ fn directed<'a>(directive: Directive) -> Ask<'a>
     Ask::Happening(Event::Directive(directive))
 }
 
-// What a line of the link asks.
+// Returns what a line of the link asks.
 fn link_ask(line: &[u8]) -> Option<Ask<'static>>
     ensures { option_map ask_said result ≡ lookup (bytes_eq line.now) link_asks }
 {
@@ -89,7 +89,7 @@ fn link_ask(line: &[u8]) -> Option<Ask<'static>>
     None
 }
 
-// What a line asks that is an event by itself.
+// Returns what a line that is an event by itself asks.
 fn event_ask(line: &[u8]) -> Option<Ask<'static>>
     ensures { option_map ask_said result ≡ lookup (bytes_eq line.now) event_asks }
 {
@@ -111,7 +111,7 @@ fn event_ask(line: &[u8]) -> Option<Ask<'static>>
     link_ask(line)
 }
 
-// What a line with neither a number nor octets asks.
+// Returns what a line with neither a number nor octets asks.
 fn plain_ask(line: &[u8]) -> Option<Ask<'static>>
     ensures { option_map ask_said result ≡ lookup (bytes_eq line.now) plain_asks }
 {
@@ -140,7 +140,7 @@ fn byte_in(word: &[u8]) -> Option<u8>
     Some(number as u8)
 }
 
-// What a line that ends in a number asks.
+// Returns what a line that ends in a number asks.
 fn numbered_ask(line: &[u8]) -> Option<Ask<'static>>
     ensures { option_map ask_said result ≡ ask_by numbered_asks line.now }
 {
@@ -166,7 +166,7 @@ fn numbered_ask(line: &[u8]) -> Option<Ask<'static>>
     None
 }
 
-// An ask that carries octets, if what stands in place of them is their digits.
+// Returns an ask that carries octets, if what it has instead of them is their digits.
 fn carrying(ask: Ask<'_>) -> Option<Ask<'_>>
     ensures { option_map ask_said result
         ≡ option_map (λ octets. ask_with ask.entry octets) (octets_in_word (octets_in ask.entry)) }
@@ -177,7 +177,7 @@ fn carrying(ask: Ask<'_>) -> Option<Ask<'_>>
     Some(ask)
 }
 
-// What a line that ends in octets or in a number asks.
+// Returns what a line that ends in octets or in a number asks.
 fn worded_ask(line: &[u8]) -> Option<Ask<'_>>
     ensures { option_map ask_said result ≡ ask_by worded_asks line.now }
 {

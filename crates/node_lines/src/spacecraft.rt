@@ -1,4 +1,4 @@
-// A spacecraft, played line by line.
+// A spacecraft that is run line by line.
 
 ghost use Rattle.std.specs.Prelude.{◌≡◌, ℕ};
 ghost use Rattle.cop1.specs.Farm.{FarmState};
@@ -118,7 +118,7 @@ fn push_receiver(text: &mut String, node: &Spacecraft) -> Result<(), AllocError>
     write!(text, "state={state} vr={vr}")
 }
 
-// The flags lockout, wait and retransmit as 0 or 1.
+// Returns the flags lockout, wait and retransmit as 0 or 1.
 fn flag_numbers(word: Clcw) -> (u8, u8, u8)
     ensures { (farm : FarmState) (vcid : ℕ) → word ≡ report_of farm vcid → (result.0 ≡ from_bool farm.lockout)
         × (result.1 ≡ from_bool farm.wait) × (result.2 ≡ from_bool farm.retransmit) }

@@ -1,4 +1,4 @@
--- What octets that arrive may do on board, told apart once.
+-- What arriving octets may do on board: the case distinction, made once.
 use Rattle.std.proofs.Common.{◌≡◌, refl, ℕ, Bool, true, false, List, Option, Some, None, Result, Ok, Err, if◌then◌else◌}
 use Rattle.tc_frame.specs.Layout.{SegmentView, BodyView, Ad, Bd, Bc, FrameView}
 use Rattle.tc_frame.specs.Decoding.{frame_at}
@@ -16,16 +16,16 @@ use Rattle.nodes.specs.Spacecraft.{body_outcome, frame_outcome, spacecraft_recei
 use Rattle.nodes.specs.declared.received.Received.{Received}
 use Rattle.nodes.specs.declared.received.Received.TheVariants.{Foreign}
 
--- with the segment that is accepted, if one is
+-- P holds for the accepted segment, if there is one, and the state in each case
 pub record AtEachArrival (s : SpacecraftState) (P : Option SegmentView → SpacecraftState → Type 0) : Type 0 where
-  -- it is no frame of this channel, or the receiver takes a step and no more is done
+  -- the octets form no valid frame of this channel, or the receiver takes a step and nothing else happens
   pub same : P None s
   pub steps : (e : FarmEvent) → P None (after_farm s e)
   -- a packet of a Type-BD frame is kept, or the segment of a Type-AD frame is accepted
   pub keeps : (packet : PacketOn) → P None (record (after_farm s BdArrives) { bypass = packets_kept s packet })
   pub accepts : (n : ℕ) (u : SegmentView) → P (Some u) (after_farm (after_segment s u) (AdArrives n (is_free s)))
 
--- a Type-BD frame leaves the segments that were accepted
+-- a Type-BD frame does not change the accepted segments
 pub bypass_same : (s : SpacecraftState) (u : SegmentView) (kept : Bool)
     → (bypass_outcome s u kept).after.accepted ≡ s.accepted
 bypass_same s u true = refl

@@ -1,4 +1,4 @@
--- What a decoder of packets says of octets as command packets.
+-- What the result of the packet decoder implies for command packets.
 use Rattle.std.proofs.Common.{◌≡◌, ℕ, Bool, true, false, not, eqb, ltb, List, [], ◌∷◌, length, take, drop, Some}
 use Rattle.std.proofs.Common.{None, Result, Err, refl, sym, ap, ◌∙◌, arith, length-take, cond}
 use Rattle.std.proofs.lemmas.Bool.Decides.{nat_tests}
@@ -36,7 +36,7 @@ here b p n h =
     } in
     ap finds_command (packet_again (take n b) p n again)
 
--- it and those after it
+-- that packet and the ones after it
 pub one_more : (b : List ℕ) (p : PacketView) (n : ℕ) → IsFirstPacket p n b
     → (packets_in b ≡ take n b ∷ packets_in (drop n b)) × (rest_in b ≡ rest_in (drop n b))
 one_more b p n h = one_more-by_len b n (first_read b p n h) h.within
@@ -51,7 +51,7 @@ none_read : (b : List ℕ) (e : PacketFault) → Err e ≡ packet_at b → first
 none_read b e h =
     sym (ap (λ (r : Result (PacketView × ℕ) PacketFault). option_map (λ k. take k b) (len_of r)) h ∙ first_is b)
 
--- where no packet is read, none is there and all is left
+-- if no packet is decoded, the octets contain none, and all are left
 pub no_more_read : (b : List ℕ) (e : PacketFault) → Err e ≡ packet_at b → (packets_in b ≡ []) × (rest_in b ≡ b)
 no_more_read b e h = no_more b (none_read b e h)
 
@@ -59,7 +59,7 @@ pub over_more : (most : ℕ) (b : List ℕ) (p : PacketView) (n : ℕ) → IsFir
     → is_some_over most (packets_in b) ≡ ltb most n || is_some_over most (packets_in (drop n b))
 over_more most b p n h = over-more most n b (first_read b p n h) h.within
 
--- ---- octets that are exactly one
+-- ---- octets that are exactly one packet
 
 pub one_command : (octets : List ℕ) (p : PacketView) (n : ℕ) → IsFirstPacket p n octets → n ≡ length octets
     → is_command_packet p ≡ are_commands false octets
@@ -74,7 +74,7 @@ one_command octets p n h e =
     ∙ and-true (is_command_packet p) in
     sym all ∙ ap (λ (t : Bool). t && list_all is_command (packets_in octets)) (sym one)
 
--- more than the packet that they begin with
+-- octets that are more than the packet that they begin with
 pub more_than_one : (octets : List ℕ) (p : PacketView) (n : ℕ) → IsFirstPacket p n octets
     → (n ≡ length octets → ⊥) → eqb n (length octets) ≡ are_commands false octets
 more_than_one octets p n h ne =
@@ -93,7 +93,7 @@ not_both : (t : Bool) → t && false ≡ false
 not_both true = refl
 not_both false = refl
 
--- a packet that is no command
+-- a packet that is not a command
 pub refused_here : (octets rest : List ℕ) (p : PacketView) (n : ℕ) → IsFirstPacket p n rest
     → is_command_packet p ≡ false
     → list_all is_command (packets_in rest) ≡ list_all is_command (packets_in octets)
@@ -119,7 +119,7 @@ not_whole octets rest e none same some =
     (ap (λ (t : Bool). ltb 0 (length octets) && t) (ap (λ (xs : List ℕ). eqb (length xs) 0) left ∙ some)
     ∙ not_both (ltb 0 (length octets)))
 
--- nothing after it, and each a command
+-- no octets after the last packet, and each packet a command
 all_commands : (octets rest : List ℕ) (e : PacketFault) → Err e ≡ packet_at rest
     → list_all is_command (packets_in rest) ≡ list_all is_command (packets_in octets)
     → list_all is_command (packets_in octets) ≡ true
@@ -145,13 +145,13 @@ all_there octets rest e none same some h all =
     both_true (ltb 0 (length octets)) _ _ (nothing_left octets rest e none same h) (all_commands octets rest e none all)
     ∙ sym (some_or_none (length octets)) ∙ ap not some
 
--- ---- why octets are not submitted
+-- ---- why octets are refused
 
 pub not_commands : (limits : Limits) (octets : List ℕ) → limits.blocking ≡ true → are_commands true octets ≡ false
     → commands_fault limits octets ≡ Some NotCommand
 not_commands limits octets blocking none = rw (blocking, none) refl
 
--- one or more commands, of which one may be too long
+-- one or more commands; one of them may be too long
 pub judged : (limits : Limits) (octets rest : List ℕ) (e : PacketFault) (seen over : Bool) → limits.blocking ≡ true
     → Err e ≡ packet_at rest → rest_in rest ≡ rest_in octets
     → list_all is_command (packets_in rest) ≡ list_all is_command (packets_in octets)

@@ -1,4 +1,4 @@
--- What arrives is delivered as it is made ready: segments in order, and whole packets.
+-- What arrives is delivered as it becomes ready: segments in order, and whole packets.
 use Rattle.std.proofs.Common.{◌≡◌, ◌++◌, ℕ, true, false, not, List, [], ◌∷◌, length, take, drop, Result, Ok, Err, refl}
 use Rattle.std.proofs.Common.{ap, ◌∙◌, ◌≢◌, sym}
 use Rattle.std.proofs.Common.{append-nil, inl, inr}
@@ -24,7 +24,7 @@ use Rattle.nodes.specs.Spacecraft.{SpacecraftState, after_farm, assemble_step}
 use Rattle.nodes.proofs.Arrivals.{octets_come}
 use Rattle.nodes.specs.Delivery.{packets_of_map, delivered_on, HasDelivered, DeliversWhatItReceives}
 
--- What a frame of telemetry finishes is packets, each exactly one.
+-- A telemetry frame finishes only octets that are exactly one packet each.
 
 pub whole_append : (xs ys : List (List ℕ)) → AreWhole xs → AreWhole ys → AreWhole (xs ++ ys)
 whole_append [] ys h k = k
@@ -72,7 +72,7 @@ extracted_whole s f =
     let part : List ℕ = part_over_gap (gap_of s.last f.vc_count) s.part in
     kept_whole (finished_packets part f.pointer f.payload) (all_whole part f.pointer f.payload)
 
--- What is received is delivered as it is made ready.
+-- What is received is delivered as it becomes ready.
 
 of_its_map : (m : ℕ) (packets : List (List ℕ)) → packets_of_map m (put_on_map m packets) ≡ packets
 of_its_map m [] = refl
@@ -82,7 +82,7 @@ of_another_map : (k m : ℕ) (packets : List (List ℕ)) → (m ≡ k → ⊥) �
 of_another_map k m [] apart = refl
 of_another_map k m (p ∷ ps) apart = rw (ne_eqb m k apart) (of_another_map k m ps apart)
 
--- where nothing is made ready and nothing accepted
+-- if nothing becomes ready and nothing is accepted
 same_delivered : (old new : SpacecraftState) → new.config ≡ old.config → new.accepted ≡ old.accepted
     → new.ready ≡ old.ready → HasDelivered old new
 same_delivered old new config accepted ready = record {

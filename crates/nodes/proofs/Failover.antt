@@ -1,4 +1,4 @@
--- The ground that is opened at what was kept of another goes on as the other would.
+-- A ground that is opened with the record of another continues as the other would.
 use Rattle.std.proofs.Common.{◌≡◌, ◌≤◌, ℕ, List, take, refl, ap, sym, ◌∙◌, arith}
 use Rattle.std.proofs.Common.{Option, None, Some}
 use Rattle.std.specs.Prelude.{Ok, option_map, ◌==◌, nat_lt, if◌then◌else◌}
@@ -28,11 +28,11 @@ module _ (s : GroundState) where
   abbrev k : ℕ
   k = sent_beyond s
 
-  -- the account of the ground that is opened
+  -- the bookkeeping of the opened ground
   account : (failed_over s).fates ≡ record s.fates { left = take (whole_sent s) s.fates.left }
   account = ap (λ (xs : List ℕ). fates_of s.fates.acknowledged xs s.fates.kept) (front_is s)
 
-  -- it counts as the other does, as far as that was sent
+  -- it counts as the original ground does, for up to the number of sent segments
   counts : (j : ℕ) → j ≤ k → whole_with j (failed_over s).fates ≡ whole_with j s.fates
   counts j le = omega (arith, ap (whole_within j) (front_is s), whole_first j k s.fates.left le)
 

@@ -1,4 +1,4 @@
--- Whatever the sender of a ground does, it holds no more than the configuration lets it.
+-- Whatever a ground's sender does, it stays within the bounds of the configuration.
 use Rattle.std.proofs.Common.{◌≡◌, true, false, Option, Some, None, refl, ◌≤◌, ◌+◌, ◌/◌, ℕ, List, [], ◌∷◌, ◌++◌, length}
 use Rattle.std.proofs.Common.{ap, ◌∙◌, subst, arith, length-append, ◌⊎◌, inl, inr, drop, Bool}
 use Rattle.std.specs.Prelude.{map, option_to_list, nat_lt, not, is_some}
@@ -56,7 +56,7 @@ module _ (most : ℕ) where
   units_short [] short = tt
   units_short (u ∷ us) short = (short.0, units_short us short.1)
 
--- ---- what packets are cut into
+-- ---- the segments of packets
 
 all_short : (part m : ℕ) (segments : List SegmentView) → AllByRecursion (IsPart part m) segments
     → AreShort part segments
@@ -67,15 +67,15 @@ pub segments_short : (part m : ℕ) (octets : List ℕ) → 1 ≤ part → AreSh
 segments_short part m octets one =
     all_short part m (segments_of part m octets) (segments-parts part m octets one)
 
--- ---- what a step of the sender leaves
+-- ---- the state after a step of the sender
 
--- it keeps to the bounds where it did before, and no more segments wait
+-- the step keeps the bounds, and no more segments wait than before
 pub record KeepsBounds (c : Config) (f g : FopState SegmentView) : Type 0 where
   pub sender : IsSenderOf c f → IsSenderOf c g
   pub fewer : length (option_to_list g.waiting) ≤ length (option_to_list f.waiting)
 
 module _ (c : Config) (f : FopState SegmentView) where
-  -- its room and its bypass queue are as they were, and so is the wait queue, or it is empty
+  -- its room and its bypass queue are unchanged, and its wait queue is unchanged or empty
   leaves : (g : FopState SegmentView) → g.room ≡ f.room → g.bypass ≡ f.bypass
       → (g.waiting ≡ f.waiting) ⊎ (g.waiting ≡ None)
       → (IsSenderOf c f → AreSentShort c.part g.sent) → KeepsBounds c f g
@@ -102,12 +102,12 @@ module _ (c : Config) (f : FopState SegmentView) where
     fewer = rw none (omega arith);
   }
 
-  -- nothing is sent or waits
+  -- the sent queue and the wait queue are empty
   ends : (g : FopState SegmentView) → g.room ≡ f.room → g.bypass ≡ f.bypass → g.waiting ≡ None → g.sent ≡ []
       → KeepsBounds c f g
   ends g room past none sent = leaves g room past (inr none) (λ is. rw sent tt)
 
-  -- all that it holds is as it was
+  -- its queues are unchanged
   stays : (g : FopState SegmentView) → g.room ≡ f.room → g.bypass ≡ f.bypass → g.waiting ≡ f.waiting
       → g.sent ≡ f.sent → KeepsBounds c f g
   stays g room past waiting sent = leaves g room past (inl waiting) (λ is. rw sent is.sent)

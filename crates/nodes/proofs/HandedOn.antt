@@ -1,4 +1,4 @@
--- What a segment that is accepted makes ready, where the buffer is free.
+-- What an accepted segment makes ready, if the buffer is free.
 use Rattle.std.proofs.Common.{◌<◌, ℕ, List, [], ◌∷◌, ◌++◌, ◌+◌, Option, ◌≡◌, ◌≤◌, true, length, sym, subst, arith}
 use Rattle.std.specs.List.{AllByRecursion}
 use Rattle.std.specs.VecDeque.{deque_len, deque_capacity}
@@ -17,7 +17,7 @@ use Rattle.nodes.specs.SpacecraftBounds.{IsReadyWithin}
 use Rattle.nodes.specs.SpacecraftFields.{state_of, IsSound}
 use Rattle.nodes.proofs.SpacecraftBounds.{IsMade, is_made, ready_with, room_for}
 
--- The packets that come of a segment are packets on its MAP.
+-- The packets that a segment makes ready are packets on its MAP.
 
 on_map : (m : ℕ) → m < 64 → (packets : List (List ℕ)) → AreWhole packets
     → AllByRecursion IsPacketOn (put_on_map m packets)
@@ -34,7 +34,7 @@ taken_on_map limits part s =
 below_slots : (s : SpacecraftState) → is_free s ≡ true → length s.ready < s.config.ready_slots
 below_slots s free = ltb-true _ _ free
 
--- these packets, in a spacecraft with these fields
+-- what holds of these packets in a spacecraft with these fields
 pub record IsHandedOn (i : Inside) (segment : SegmentView) (packets : List (List ℕ)) : Type 0 where
   pub same_map : AllByRecursion IsPacketOn (put_on_map segment.header.map packets)
   pub room : deque_len i.ready + length packets ≤ deque_capacity i.ready

@@ -1,4 +1,4 @@
--- No field is reported as out of its range exactly where each is in it.
+-- No field is reported as out of range exactly when each field is in range.
 use Rattle.std.proofs.Common.{◌≡◌, ◌≤◌, ℕ, List, [], ◌∷◌, Bool, true, false, not, cond, Option, Some, None}
 use Rattle.std.proofs.Common.{refl, ap, subst, arith}
 use Rattle.std.specs.Prelude.{option_map}
@@ -12,7 +12,7 @@ use Rattle.nodes.specs.declared.parameter.Parameter.TheVariants as parameters
 use Rattle.nodes.specs.Parameters.{all_in_order, row_of, parameter_named, value_of, is_within, is_in_range}
 use Rattle.nodes.specs.Parameters.{out_of_range, config_fault, IsConfig}
 
--- ---- all parameters are looked at
+-- ---- all parameters are checked
 
 pub named : (p : Parameter) → parameter_named (row_of p).name ≡ Some p
 named parameters.Maps = refl
@@ -50,7 +50,7 @@ none_named : (o : Option Parameter) → option_map (λ p. (row_of p).name) o ≡
 none_named None h = refl
 none_named (Some p) h = absurd cc
 
--- ---- a parameter is in its range as arithmetic says
+-- ---- a parameter is in range exactly when it satisfies the inequalities
 
 within : (c : Config) (p : Parameter) → is_within (value_of c p) (row_of p) ≡ true
     → ((row_of p).least ≤ value_of c p) × (value_of c p ≤ (row_of p).most)

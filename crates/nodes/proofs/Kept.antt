@@ -1,4 +1,4 @@
--- What the record of a ground says of its submissions.
+-- What the record of a ground contains of its submissions.
 use Rattle.std.proofs.Common.{◌≡◌, ◌≤◌, ◌<◌, ℕ, zero, suc, ◌+◌, ◌-◌, List, [], ◌∷◌, ◌++◌, length, take, drop}
 use Rattle.std.proofs.Common.{ap, sym, ◌∙◌, arith, ◌⊎◌, inl, inr, get_or, set, append_assoc}
 use Rattle.std.proofs.lemmas.List.{drop_more, take_more, set-append_right}
@@ -13,7 +13,7 @@ use Rattle.nodes.specs.Ground.{GroundState, sent_beyond}
 use Rattle.nodes.specs.KeptGround.{IsKept, kept_of, whole_sent, no_counts}
 use Rattle.nodes.proofs.Owed.{Needs, none_whole, one_whole, left_none, fewer_left}
 
--- how many segments a submission needs that lacks so many
+-- how many segments complete a submission that lacks this many
 abbrev needed_of : ℕ → ℕ
 needed_of zero = 1
 needed_of (suc n) = suc n
@@ -28,11 +28,11 @@ none_of k = omega (arith, ap length (left_none k))
 pub whole_most : (k : ℕ) (left : List ℕ) → whole_within k left ≤ length left
 whole_most k left = omega arith
 
--- no more are whole than units
+-- no more submissions are whole than there are units
 few_whole : (k : ℕ) (left : List ℕ) → whole_within k left ≤ k
 few_whole k left = omega (arith, (fewer_left k left).1)
 
--- so a record has no more of them than units that may be sent and not acknowledged
+-- so a record has no more submissions than the number of units that may be sent and not acknowledged
 pub few_kept : (c : Config) (kept : KeptGround) → IsKept c kept
     → length (take kept.whole kept.segments) ≤ c.width / 2
 few_kept c kept is =
@@ -42,7 +42,7 @@ few_kept c kept is =
 fewer_or : (k n : ℕ) → (k < n) ⊎ (n ≤ k)
 fewer_or k n = grind arith
 
--- Of the first submissions, which are whole with k segments, as many are whole with fewer.
+-- If j is at most k, j segments complete equally many of all submissions and of those that k segments complete.
 pub whole_first : (j k : ℕ) (left : List ℕ) → j ≤ k
     → whole_within j (take (whole_within k left) left) ≡ whole_within j left
 whole_first j k [] le = ap (λ (w : ℕ). whole_within j (take w [])) (none_of k)
@@ -82,13 +82,13 @@ module _ (s : GroundState) where
   front_length : length (take w left) ≡ w
   front_length = length-take-le w left (whole_most (sent_beyond s) left)
 
-  -- it has the submissions that were sent whole
+  -- the record contains the submissions that were sent whole
   pub front_is : take (kept_of s).whole (kept_of s).segments ≡ take w left
   front_is =
       take-append-le w (take w left) (drop w no_counts) (omega (arith, front_length))
       ∙ take-take w w left (omega arith)
 
-  -- and is one that a ground of its configuration gives
+  -- the record is one that a ground with its configuration can return
   pub kept_fits : ahead_by s.fop.vs s.fop.nn ≤ s.config.width / 2 → IsKept s.config (kept_of s)
   kept_fits apart = record {
     apart = apart;
@@ -98,7 +98,7 @@ module _ (s : GroundState) where
     rest = drop-append-drop w no_counts (take w left) w (omega arith) front_length;
   }
 
--- ---- it is written, place by place
+-- ---- the record is written slot by slot
 
 pub put_next : (left old out : List ℕ) (k n : ℕ) → out ≡ take k left ++ drop k old → k < length left
     → k < length old → n ≡ get_or left k n → set out k n ≡ take (k + 1) left ++ drop (k + 1) old

@@ -1,4 +1,4 @@
--- Each submission that is not acknowledged whole has a segment that the sender holds, whatever a report does.
+-- Each submission that is not acknowledged whole has a segment that the sender holds, whatever a CLCW does.
 use Rattle.std.proofs.Common.{◌≡◌, true, false, not, Option, None, refl, ◌≤◌, ◌<◌, ℕ, zero, suc, ◌+◌, ◌-◌, List, []}
 use Rattle.std.proofs.Common.{◌∷◌, ◌++◌, length, ap, ◌∙◌, arith, ◌≢◌, drop, Some, sym, length-append, length-drop}
 use Rattle.std.specs.Prelude.{◌==◌, ◌&&◌, map, option_to_list, Result, Bool}
@@ -26,13 +26,13 @@ use Rattle.cop1.proofs.Cases.{obeyed, pulled_out, heard_active, ticked}
 use Rattle.nodes.specs.Fates.{without_one, left_after, whole_within, Fates, kept_after, counted_from, after_obeying}
 use Rattle.nodes.specs.Ground.{moved_by}
 
--- What a report may do at the ground's sender, in any state.
+-- What a CLCW may do at the ground's sender, in any state.
 
--- a report that confirms
+-- a CLCW that confirms
 abbrev pub IsConfirming : FopState SegmentView → Clcw → Type 0
 IsConfirming s c = (locks c ≡ false) × (waits c ≡ false) × (asks c ≡ false) × (c.value ≡ s.vs)
 
--- what gives an alert in S4
+-- the cause of each alert in S4
 abbrev pub IsCause : FopState SegmentView → Clcw → Alert → Type 0
 IsCause s c Lockout = locks c ≡ true
 IsCause s c NnR = c.value == s.vs ≡ false
@@ -74,7 +74,7 @@ module _ (s : FopState SegmentView) (c : Clcw) (P : FopOutcome SegmentView (Opti
   pub reported : P (clcw_step s c)
   reported = reported_in s.state refl
 
--- Submissions by the segments that are left of them.
+-- Submissions, as the numbers of segments that they lack.
 
 -- ---- segments are done
 
@@ -89,7 +89,7 @@ left_more zero k m left is =
 left_more (suc j) k zero left is = absurd (omega (arith, is))
 left_more (suc j) k (suc m) left is = left_more j k m (without_one left) (omega (arith, is))
 
--- nothing is left with more, where nothing is with fewer
+-- if j segments complete all submissions, so do any k segments with j ≤ k
 pub still_none : (j k : ℕ) (left : List ℕ) → j ≤ k → left_after j left ≡ [] → left_after k left ≡ []
 still_none j k left le none =
     left_more j (k - j) k left (omega (arith, le)) ∙ ap (left_after (k - j)) none ∙ left_none (k - j)
@@ -99,7 +99,7 @@ one_fewer [] = (omega arith, omega arith)
 one_fewer (suc (suc n) ∷ ns) = (omega arith, omega arith)
 one_fewer (_ ∷ ns) = (omega arith, omega arith)
 
--- submissions leave, at most one with each segment
+-- with each segment, at most one submission leaves the list
 pub fewer_left : (k : ℕ) (left : List ℕ)
     → (length (left_after k left) ≤ length left) × (length left ≤ k + length (left_after k left))
 fewer_left zero left = (omega arith, omega arith)
@@ -108,7 +108,7 @@ fewer_left (suc k) left =
     let one = one_fewer left in
     (omega (arith, more.0, one.0), omega (arith, more.1, one.1))
 
--- where nothing is left there are no more than segments
+-- if k segments complete all submissions, there are at most k submissions
 pub most_left : (k : ℕ) (left : List ℕ) → left_after k left ≡ [] → length left ≤ k
 most_left k left none = omega (arith, (fewer_left k left).1, ap length none)
 
@@ -120,7 +120,7 @@ pub last_one : (n : ℕ) (ns : List ℕ) → n ≤ 1 → without_one (n ∷ ns) 
 last_one (suc (suc n)) ns le = absurd (omega (arith, le))
 last_one _ ns le = refl
 
--- ---- one more is submitted
+-- ---- one more submission
 
 pub with_one : (x : ℕ) (left more : List ℕ) → without_one ((x ∷ left) ++ more) ≡ without_one (x ∷ left) ++ more
 with_one (suc (suc n)) ns more = refl
@@ -131,7 +131,7 @@ alone (suc (suc n)) one = alone (suc n) (omega arith)
 alone (suc zero) one = refl
 alone zero one = absurd (omega (arith, one))
 
--- all are whole with its segments too
+-- its segments in addition complete all submissions
 pub none_with : (k n m : ℕ) (left : List ℕ) → m ≡ k + n → left_after k left ≡ [] → 1 ≤ n
     → left_after m (left ++ n ∷ []) ≡ []
 none_with k n m [] sum none one = still_none n m (n ∷ []) (omega (arith, sum)) (alone n one)
@@ -142,11 +142,11 @@ none_with (suc k) n (suc m) (x ∷ xs) sum none one =
 
 -- ---- submissions are counted
 
--- the submissions from this place on are the one that is looked at, and those after it
+-- the submissions from this index on are the current one and those after it
 pub from_here : (ns : List ℕ) (k n : ℕ) → k < length ns → n ≡ get_or ns k n → drop k ns ≡ n ∷ drop (k + 1) ns
 from_here ns k n lt at = drop_more ns k n lt ∙ ap (λ (m : ℕ). m ∷ drop (k + 1) ns) (sym at)
 
--- the first needs so many segments
+-- this many segments complete the first submission
 abbrev pub Needs : ℕ → ℕ → Type 0
 Needs n needed = (1 ≤ needed) × (n ≤ needed) × (1 ≤ n → needed ≤ n) × (n ≤ 1 → needed ≤ 1)
 
@@ -158,7 +158,7 @@ short_left (suc k) (suc (suc n)) needed ns is lt =
     (omega (arith, lt, is.2 (omega arith)))
 short_left _ _ needed ns is lt = absurd (omega (arith, lt, is.3 (omega arith)))
 
--- it is not whole with fewer
+-- fewer segments do not complete it
 pub none_whole : (k n needed : ℕ) (ns : List ℕ) → Needs n needed → k < needed → whole_within k (n ∷ ns) ≡ 0
 none_whole k n needed ns is lt = omega (arith, short_left k n needed ns is lt)
 
@@ -173,7 +173,7 @@ left_behind (suc k) _ needed ns is le =
     let same : k ≡ suc k - needed = omega (arith, is.0, is.3 (omega arith)) in
     ap (λ (j : ℕ). left_after j ns) same
 
--- with them it is whole, and those after it are counted
+-- that many complete it, and the count continues with the submissions after it
 pub one_whole : (k n needed : ℕ) (ns : List ℕ) → Needs n needed → needed ≤ k
     → whole_within k (n ∷ ns) ≡ 1 + whole_within (k - needed) ns
 one_whole k n needed ns is le =
@@ -181,17 +181,17 @@ one_whole k n needed ns is le =
 
 -- Whatever the sender does, each submission that is not acknowledged whole has a segment that it holds.
 
--- how many segments the sender has sent, and that wait to be sent
+-- the number of segments in the sender's sent queue and wait queue
 abbrev pub held : FopState SegmentView → ℕ
 held f = length f.sent + length (option_to_list f.waiting)
 
--- with those that are pending, once they are acknowledged, every submission is whole
+-- once these segments and the pending ones are acknowledged, every submission is whole
 abbrev pub AreOwed : FopState SegmentView → List SegmentView → List ℕ → Type 0
 AreOwed f pending left =
     f.state ≢ S6
     → left_after (length (map (λ u. u.unit) f.sent ++ (option_to_list f.waiting ++ pending))) left ≡ []
 
--- where it is on it was, and it holds what it held but for so many
+-- if the sender is not in S6 after a step, it was not in S6 before, and it has lost at most k segments
 abbrev Holds : FopState SegmentView → ℕ → FopState SegmentView → Type 0
 Holds f k g = g.state ≢ S6 → (f.state ≢ S6) × (held f ≤ k + held g)
 
@@ -209,7 +209,7 @@ still_owed f g pending left k holds owed on =
     let le : m ≤ k + n = omega (arith, all_held f pending, all_held g pending, was.1) in
     sym (left_more k n (k + n) left refl) ∙ still_none m (k + n) left le (owed was.0)
 
--- NN(R) moves as far as it is ahead then
+-- NN(R) moves by its distance from the old value
 pub moved_is : (new old : ℕ) → old < 256 → ahead_by new old ≡ moved_by new old
 moved_is new old octet =
     cond_both (new == old) 0 (ahead_by new old) (λ (n : ℕ). ahead_by new old ≡ n)
@@ -248,7 +248,7 @@ module _ (f : FopState SegmentView) where
     gives_up = λ on. absurd (on refl);
   })
 
-  -- ---- a report, by which as many segments leave as NN(R) moves
+  -- ---- a CLCW: at most as many segments leave as NN(R) moves
 
   abbrev HoldsRest : FopOutcome SegmentView (Option Alert) → Type 0
   HoldsRest o = Holds f (moved_by o.after.nn f.nn) o.after
@@ -303,7 +303,7 @@ module _ (f : FopState SegmentView) where
     sets = λ d k n ticks plain most none on. (on, omega arith);
   })
 
-  -- where submissions are counted anew, too
+  -- for a directive that restarts the counts, too
   pub still_owed_then : (d : Directive) (pending : List SegmentView) (fates : Fates) → AreOwed f pending fates.left
       → AreOwed (directive_step f d).after pending (after_obeying fates d).left
   still_owed_then d pending fates owed = counted (kept_after d) refl where

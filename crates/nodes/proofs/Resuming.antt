@@ -1,4 +1,4 @@
--- What a resumption does: it is refused, or a session begins where it is known how far the last one has come.
+-- A resumption is refused, or a session begins and the progress of the last session is known.
 use Rattle.std.proofs.Common.{◌≡◌, true, false, ℕ, Option, Some, None, Result, refl, ap}
 use Rattle.std.proofs.lemmas.Bool.{cond_both}
 use Rattle.std.specs.Prelude.{Ok, Err, is_some}
@@ -20,7 +20,7 @@ module _ (s : GroundState) (value : ℕ) (P : GroundOutcome (Result ℕ LinkFaul
       → (can_resume s value ≡ false → P (record { answer = Err NotKnown; after = s })) → P (ground_resume s value)
   resumed_or = resumed_by (known_at_end s value) refl
 
--- where it is not refused
+-- if the resumption is not refused
 pub resumed_known : (s : GroundState) (value : ℕ) → can_resume s value ≡ true
     → (whole : ℕ) × (known_at_end s value ≡ Some whole)
     × (ground_resume s value ≡ record { answer = Ok whole; after = after_resuming s value })
@@ -31,14 +31,14 @@ resumed_known s value can = known (known_at_end s value) refl where
   known (Some whole) is = (whole, is, ap (resumed_from s value) is)
   known None is = absurd (cc (can, ap is_some is))
 
--- it is known in S6 alone
+-- the progress is known only in S6
 pub known_off : (s : GroundState) (value more : ℕ) → known_at_end s value ≡ Some more
     → is_closed s.fop.state ≡ true
 known_off s value more =
     cond_both (is_closed s.fop.state) _ None (λ (o : Option ℕ). o ≡ Some more → is_closed s.fop.state ≡ true)
     (λ off known. off) (λ on known. absurd (cc known))
 
--- and at any time only while the account is kept
+-- in any state, it is known only while `kept` is true
 pub known_kept : (s : GroundState) (value more : ℕ) → known_on_board s value ≡ Some more → s.fates.kept ≡ true
 known_kept s value more =
     cond_both s.fates.kept _ _ (λ (o : Option ℕ). o ≡ Some more → s.fates.kept ≡ true) (λ kept known. kept)

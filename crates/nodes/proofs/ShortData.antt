@@ -1,10 +1,10 @@
--- How many octets a frame's segment has.
+-- The length of a frame's segment.
 use Rattle.std.proofs.Common.{◌≡◌, ◌≤◌, ℕ, suc, ◌-◌, List, length, take, drop, ap, arith}
 use Rattle.std.proofs.lemmas.List.{length-drop, length-take-le}
 use Rattle.tc_frame.specs.declared.frame.Check.TheVariants.{On}
 use Rattle.tc_frame.specs.Layout.{FrameView, body_octets, IsTcFrame}
 
--- The data of a frame's segment are at most 1,016 octets: the frame has at most 1,024.
+-- A frame's segment has at most 1,016 octets of data, since the frame has at most 1,024 octets.
 pub short_data : (f : FrameView) (b payload : List ℕ) → IsTcFrame On f b
     → length (body_octets f.body) ≡ suc (suc (length payload)) → length payload ≤ 1016
 short_data f b payload frame count =

@@ -33,9 +33,9 @@ use Rattle.nodes.specs.Parameters.{limits_of}
 use Rattle.nodes.specs.Spacecraft.{SpacecraftState}
 use Rattle.nodes.specs.SpacecraftBounds.{octets_together, most_ready, IsReadyWithin, IsPastWithin, IsBounded}
 
--- ---- what a segment makes ready
+-- ---- the packets that a segment makes ready
 
--- one packet at most, or with blocking several that are within these octets, each of 7 octets at least
+-- at most one packet or, with blocking, several within these octets, each of at least 7 octets
 AreMadeOf : Limits → List ℕ → List (List ℕ) → Type 0
 AreMadeOf limits octets packets =
     (length packets ≤ 1)
@@ -110,7 +110,7 @@ taken_made limits part s =
     (λ o. AreMadeOf limits s.payload o.packets)
     (λ _. cell_made limits s.header.flags part s.payload) (λ _. none_made limits s.payload)
 
--- ---- how many they are, and how long
+-- ---- how many packets there are, and how long they are
 
 pub record IsMade (limits : Limits) (packets : List (List ℕ)) : Type 0 where
   pub few : length packets ≤ 145
@@ -171,7 +171,7 @@ each_together most (p ∷ ps) within =
       sum_more (λ (p : PacketOn). length p.octets) p ps,
     )
 
--- the packets of one frame more come while fewer wait than there are slots
+-- the packets of one more frame arrive while fewer wait than there are slots
 pub ready_with : (c : Config) (ready : List PacketOn) (m : ℕ) (packets : List (List ℕ)) → IsReadyWithin c ready
     → length ready < c.ready_slots → IsMade (limits_of c) packets
     → IsReadyWithin c (ready ++ put_on_map m packets)
@@ -192,7 +192,7 @@ ready_with c ready m packets is below made =
       together = omega (arith, sum, before, slots, made.together);
     }
 
--- and have room
+-- there is room for them
 pub room_for : (c : Config) (ready : List PacketOn) (packets : List (List ℕ)) → length ready < c.ready_slots
     → IsMade (limits_of c) packets → length ready + length packets ≤ most_ready c
 room_for c ready packets below made =
@@ -200,12 +200,12 @@ room_for c ready packets below made =
     (λ (n : ℕ). length ready + length packets ≤ n)
     (λ _. omega (arith, below, made.few)) (λ none. omega (arith, below, made.unblocked none))
 
--- ---- those past the sequence control
+-- ---- the packets of Type-BD frames
 
 pub kept_few : {X : Type 0} → (n : ℕ) (xs : List X) → length (keep_last n xs) ≤ n
 kept_few n xs = omega (arith, length-drop (length xs - n) xs)
 
--- one more of them
+-- one more packet is kept
 kept_within : (most n : ℕ) (packets : List PacketOn) (packet : PacketOn) → AreWithin most packets
     → length packet.octets ≤ most
     → AreWithin most (keep_last n (packets ++ packet ∷ []))
@@ -250,7 +250,7 @@ parts_within limits m segments =
     (λ (o : Option (List ℕ)). IfSome o (λ part. (is_open limits m ≡ true) × (length part ≤ limits.max_packet)))
     (λ t. both_of _ _ _ t (not_too_long limits (ending_part (of_map m segments)))) (λ t. tt)
 
--- ---- what a spacecraft keeps to
+-- ---- the bounds of a spacecraft
 
 pub bounded : (s : SpacecraftState) → IsReadyWithin s.config s.ready → IsPastWithin s.config s.bypass → IsBounded s
 bounded s ready past = record {

@@ -1,4 +1,4 @@
--- Why packets that are to be submitted are refused, and what is known of those that are not.
+-- Why packets to be submitted are refused, and what is known of packets that are not refused.
 use Rattle.std.proofs.Common.{◌≡◌, ◌⊎◌, inl, inr, ℕ, List, Bool, true, false, not, if◌then◌else◌, refl, ◌∙◌, Option}
 use Rattle.std.proofs.Common.{Some, None, IfSome, Result, Ok, Err, IfErr, IsErrAnd, IsOkUnless, ◌≤◌, ◌<◌, ◌+◌, zero}
 use Rattle.std.proofs.Common.{is_some, suc, get_or, cond, [], ◌∷◌, length, sym, ap, subst, arith}
@@ -24,7 +24,7 @@ use Rattle.nodes.specs.Ground.{bypass_fault}
 use Rattle.nodes.specs.Parameters.{limits_of, IsConfig}
 use Rattle.nodes.specs.OwnedFields.{FitsFrame}
 
--- Why packets that are to be submitted are refused, and what is answered then.
+-- Why packets to be submitted are refused, and the answer to a refusal.
 
 -- ---- the reason
 
@@ -32,7 +32,7 @@ pub no_session : (s : GroundState) (m : ℕ) (octets : List ℕ) → is_closed s
     → submit_fault s m octets ≡ Some NotOpen
 no_session s m octets closed = rw closed refl
 
--- the tests of packets, with what applies where they refuse nothing
+-- the result of the packet tests, or the next reason if they refuse nothing
 tested : (commands over : Bool) → Option LinkFault → Option LinkFault
 tested commands over rest = if not commands then Some NotCommand else if over then Some TooLong else rest
 
@@ -53,7 +53,7 @@ module _ (s : GroundState) (m : ℕ) (octets : List ℕ) (active : is_closed s.f
   pub no_such_map : is_open (limits_of s.config) m ≡ false → submit_fault s m octets ≡ Some ClosedMap
   no_such_map shut = rw (active, shut) refl
 
-  -- of a MAP that is open
+  -- on an open MAP
   module _ (opened : is_open (limits_of s.config) m ≡ true) where
     abbrev rest : Option LinkFault
     rest = if is_over_slots s m octets then Some QueueFull else None
@@ -73,9 +73,9 @@ module _ (s : GroundState) (m : ℕ) (octets : List ℕ) (active : is_closed s.f
     unfolding tested
     but_for_places is = judged ∙ for_none _ _ rest is
 
--- ---- what is answered
+-- ---- the answer
 
--- a refusal for this reason, or for want of memory where there is none
+-- a refusal for this reason or, if there is none, because memory ran out
 pub record IsRefusal {A : Type 0} (reason : Option LinkFault) (r : Result A LinkFault) : Type 0 where
   pub refused : IfSome reason (λ fault. r ≡ Err fault)
   pub memory : reason ≡ None → IsOkUnless r Memory
@@ -104,7 +104,7 @@ for_places false reason fault is answer = record {
   faults = inl answer;
 }
 
--- What is known of packets that the ground does not refuse: their segments fit into frames.
+-- The segments of packets that the ground does not refuse fit into frames.
 
 -- a test that refused nothing
 pub passed : (b : Bool) (fault : LinkFault) (rest : Option LinkFault) → cond b (Some fault) rest ≡ None
@@ -122,7 +122,7 @@ some_octet (x ∷ xs) h = omega arith
 pub submit_map : (s : GroundState) (m : ℕ) (octets : List ℕ) → submit_fault s m octets ≡ None → m < 64
 submit_map s m octets h = below_64 (limits_of s.config) m (passed _ _ _ (passed _ _ _ h).1).0
 
--- what is not refused comes while the sender is on, is packets, and has places in the queue
+-- a submission that is not refused: the sender is not in S6, the octets are packets, and they fit into the queue
 pub record IsAccepted (s : GroundState) (m : ℕ) (octets : List ℕ) : Type 0 where
   pub active : is_closed s.fop.state ≡ false
   pub commands : commands_fault (limits_of s.config) octets ≡ None
@@ -141,7 +141,7 @@ is_accepted s m octets h =
       places = ltb-false _ _ over.0;
     }
 
--- octets that are one segment have at most a part
+-- octets that form one segment have at most `part` octets
 pub not_over : (over : Bool) (s : SegmentView) → not (is_some (if over then None else Some s)) ≡ false → over ≡ false
 not_over true s one = absurd (cc one)
 not_over false s one = refl
@@ -183,7 +183,7 @@ cuttable limits octets h =
     let over : is_some_over limits.max_packet (packets_in octets) ≡ false = (passed _ _ _ command.1).0 in
     cuttable_from limits octets (rw (taken, over) refl)
 
--- packets have a segment
+-- packets have at least one segment
 some_of : (segments : List SegmentView) (octets : List ℕ) → concat (payloads segments) ≡ octets → 1 ≤ length octets
     → 1 ≤ length segments
 some_of [] octets is some = absurd (omega (arith, ap length is, some))
@@ -195,7 +195,7 @@ some_segments limits m octets one h =
     let is = cuttable limits octets h in
     some_of (segments_of limits.part m octets) octets (segments-joined limits.part m octets one is.whole) is.some
 
--- those that go into one segment
+-- packets that fit into one segment
 pub one_segment : (limits : Limits) (m : ℕ) (octets : List ℕ) (s : SegmentView) → commands_fault limits octets ≡ None
     → Some s ≡ alone_segment limits.part m octets
     → s ∷ [] ≡ segments_of limits.part m octets
@@ -211,7 +211,7 @@ one_fits limits m octets s h lt most e =
     subst FitsFrame (sym is.0)
     (record { map = lt; least = (cuttable limits octets h).some; most = omega (arith, is.1) })
 
--- what the ground does not refuse
+-- packets that the ground does not refuse
 pub not_refused : (s : GroundState) (m : ℕ) (octets : List ℕ) → is_closed s.fop.state ≡ false
     → is_open (limits_of s.config) m ≡ true
     → commands_fault (limits_of s.config) octets ≡ None → is_over_slots s m octets ≡ false
@@ -222,7 +222,7 @@ not_refused s m octets closed opened h over =
     let short : is_some_over s.config.max_packet (packets_in octets) ≡ false = (passed _ _ _ command.1).0 in
     rw (closed, opened, all, short, over) refl
 
--- one of several
+-- one of several segments
 pub fits_at : (segments : List Segment) (i : ℕ) (d : Segment) → AllByRecursion FitsFrame (segment_views segments)
     → i < length segments → FitsFrame (segment_view (get_or segments i d))
 fits_at [] i d h lt = absurd (omega arith)

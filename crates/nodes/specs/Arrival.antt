@@ -1,4 +1,4 @@
--- What comes of octets that are on their way to a spacecraft.
+-- The effect that octets in transit on the uplink will have on a spacecraft.
 use Rattle.std.specs.Prelude.{List, ℕ, if◌then◌else◌, Option, Some, None, Result, Ok, Err, ◌≡◌, ◌≤◌}
 use Rattle.std.specs.Prelude.{length, true, option_map, IfSome}
 use Rattle.tc_frame.specs.declared.frame.Check.TheVariants.{On}
@@ -18,7 +18,7 @@ use Rattle.nodes.specs.declared.spacecraft.arrival.Arrival.{Arrival}
 use Rattle.nodes.specs.Packets.{PacketOn}
 use Rattle.nodes.specs.Parameters.{limits_of}
 
--- What a spacecraft will accept of octets that are on their way.
+-- The segment that a spacecraft will accept from octets in transit.
 
 abbrev pub segment_in_body : SpacecraftState → BodyView → Option SegmentView
 segment_in_body s (Ad n segment) =
@@ -33,22 +33,22 @@ segment_in_frame s (Ok frame) =
     if is_own_frame s.config frame then segment_in_body s frame.body
     else None
 
--- the segment that will be accepted
+-- the segment that will be accepted, if there is one
 abbrev pub segment_to_accept : SpacecraftState → List ℕ → Option SegmentView
 segment_to_accept s octets = segment_in_frame s (frame_at On octets)
 
--- What comes of octets that have come from the ground, found out before anything changes.
+-- The effect of octets that have arrived from the ground, determined before anything changes.
 
--- ---- what an arrival holds
+-- ---- the contents of an arrival
 
 abbrev pub segment_accepted : Arrival → Option SegmentView
 segment_accepted a = option_map (λ p. segment_view p.0) a.accepted
 
--- with the packets that are ready with it
+-- the accepted segment, with the packets that it makes ready
 abbrev pub accepted_of : Arrival → Option (SegmentView × List (List ℕ))
 accepted_of a = option_map (λ p. (segment_view p.0, ready_view p.1.packets)) a.accepted
 
--- ---- what it leads to
+-- ---- the state after it
 
 abbrev pub after_accepting : SpacecraftState → Option SegmentView → SpacecraftState
 after_accepting s None = s
@@ -62,10 +62,10 @@ abbrev pub after_arrival : SpacecraftState → Arrival → SpacecraftState
 after_arrival s a =
     record (after_keeping (after_accepting s (segment_accepted a)) a.kept) { farm = a.farm }
 
--- ---- what it was found out of
+-- ---- how it was determined
 
--- a segment is accepted and this was prepared of it: the buffer is free, and the segment is a
--- frame's
+-- The segment may be accepted with what was prepared from it: the buffer is free, and the segment
+-- is short enough for a frame.
 pub record IsAcceptable (s : SpacecraftState) (segment : SegmentView) (p : Prepared) : Type 0 where
   pub prepared :
       IsPreparedBy (limits_of s.config)
@@ -74,7 +74,7 @@ pub record IsAcceptable (s : SpacecraftState) (segment : SegmentView) (p : Prepa
   pub free : is_free s ≡ true
   pub short : length segment.payload ≤ 1016
 
--- it has this outcome, and accepts this segment; what is kept is not too long
+-- the arrival has this outcome and accepts this segment; a packet that it keeps is not too long
 pub record IsArrivalOf (s : SpacecraftState) (o : SpacecraftOutcome Received)
     (segment : Option SegmentView) (a : Arrival) : Type 0 where
   pub answer : a.received ≡ o.answer
@@ -84,7 +84,7 @@ pub record IsArrivalOf (s : SpacecraftState) (o : SpacecraftOutcome Received)
   pub within : IfSome a.kept (λ p. length p.octets ≤ s.config.max_packet)
   pub short : IfSome a.kept (λ p. length p.octets ≤ 1016)
 
--- this comes of its octets, at a spacecraft in this state
+-- the arrival is the effect of its octets on a spacecraft in this state
 abbrev pub IsArrivalAt : SpacecraftState → Arrival → Type 0
 IsArrivalAt s a =
     IsArrivalOf s (spacecraft_receive s a.octets.now) (segment_to_accept s a.octets.now) a

@@ -1,4 +1,4 @@
--- Which segments of Type-BD frames are kept.
+-- Which segments of Type-BD frames a spacecraft keeps.
 use Rattle.std.specs.Prelude.{Bool, true, false, not, ◌&&◌}
 use Rattle.tc_frame.specs.declared.frame.SegmentFlags.{SegmentFlags}
 use Rattle.tc_frame.specs.declared.frame.SegmentFlags.TheVariants.{First, Continuing, Last, Alone}

@@ -17,7 +17,7 @@ abbrev pub is_telecommand : PacketKind → Bool
 is_telecommand Telemetry = false
 is_telecommand Telecommand = true
 
--- a packet to the spacecraft that isn't an idle one
+-- a telecommand packet that is not idle
 abbrev pub is_command_packet : PacketView → Bool
 is_command_packet p = is_telecommand p.kind && not (is_idle_apid p.apid)
 
@@ -29,17 +29,17 @@ finds_command (Err e) = false
 abbrev pub is_command : List ℕ → Bool
 is_command octets = finds_command (packet_at octets)
 
--- exactly one command packet, or with blocking one or more
+-- exactly one command packet or, with blocking, one or more
 abbrev pub are_commands : Bool → List ℕ → Bool
 are_commands blocking octets = are_taken blocking octets && list_all is_command (packets_in octets)
 
--- why octets are not submitted, whatever the ground is at
+-- why octets are refused whatever state the ground is in
 abbrev pub commands_fault : Limits → List ℕ → Option LinkFault
 commands_fault limits octets =
     if not (are_commands limits.blocking octets) then Some NotCommand
     else if is_some_over limits.max_packet (packets_in octets) then Some TooLong
     else None
 
--- slices of octets, without where they lie in memory
+-- the octets of slices, without their places in memory
 abbrev pub slices_view : List (Bor (List ℕ)) → List (List ℕ)
 slices_view slices = map (λ slice. slice.now) slices

@@ -1,10 +1,10 @@
--- A node's refusals: a row each.
+-- The faults of a node, one row each.
 use Rattle.std.specs.Prelude.{ℕ, List, codes}
 use Rattle.nodes.specs.declared.fault.LinkFault.{LinkFault}
 use Rattle.nodes.specs.declared.fault.LinkFault.TheVariants.{NotOpen, ClosedMap, NotCommand}
 use Rattle.nodes.specs.declared.fault.LinkFault.TheVariants.{TooLong, QueueFull, Memory, NotKnown}
 
--- the number, and the name in ASCII
+-- the fault's number, and its name in ASCII
 abbrev pub fault_row : LinkFault → ℕ × List ℕ
 fault_row NotOpen = (1, codes "NotOpen")
 fault_row ClosedMap = (2, codes "ClosedMap")

@@ -1,4 +1,4 @@
--- The ground: what it holds, and what each of its calls answers and leaves.
+-- The ground node: its state, and the return value and the final state of each call.
 use Rattle.std.specs.Prelude.{◌≡◌, ℕ, ◌+◌, List, [], ◌∷◌, ◌++◌, length, map, option_to_list, Bool}
 use Rattle.std.specs.Prelude.{true, false, not, ◌&&◌, ◌==◌, nat_lt, if◌then◌else◌, Option, Some}
 use Rattle.std.specs.Prelude.{None, option_map, IfSome, Result, Ok, Err, OnOk, OnErr, IsOkUnless}
@@ -44,15 +44,15 @@ use Rattle.nodes.specs.Steps.{Outcome}
 -- a ground node
 pub record GroundState : Type 0 where
   pub config : Config
-  -- the sender, FOP-1, of segments
+  -- the sender, FOP-1, whose units are segments
   pub fop : FopState SegmentView
-  -- the segments after its wait queue, the oldest first
+  -- the segments behind the sender's wait queue, the oldest first
   pub pending : List SegmentView
-  -- what takes packets out of the telemetry frames, and those that wait to be taken, the oldest
-  -- first
+  -- the extractor of packets from telemetry frames, and the packets that wait to be taken, the
+  -- oldest first
   pub extractor : ExtractorState
   pub telemetry : List (List ℕ)
-  -- how far the submissions of the session have come
+  -- the progress of the session's submissions
   pub fates : Fates
 
 abbrev pub GroundOutcome : Type 0 → Type 0
@@ -77,29 +77,29 @@ after_moving_up s None [] = s
 after_moving_up s None (segment ∷ pending) =
     record s { fop = record s.fop { waiting = Some segment }; pending = pending }
 
--- S6, in which packets are not taken, and where an alert leads
+-- S6, in which submissions are refused; an alert leads to S6
 abbrev pub is_closed : FopMode → Bool
 is_closed S6 = true
 is_closed _ = false
 
--- nothing is pending in S6; in the other states the oldest moves up
+-- in S6 nothing is pending; in the other states the oldest pending segment moves up
 abbrev pub refill_step : GroundState → GroundState
 refill_step s =
     if is_closed s.fop.state then record s { pending = [] }
     else after_moving_up s s.fop.waiting s.pending
 
--- the ground, where its sender is so
+-- the ground with this sender, refilled
 abbrev pub with_fop : GroundState → FopState SegmentView → GroundState
 with_fop s fop = refill_step (record s { fop = fop })
 
--- the segments that were not sent, and those that were not acknowledged, the oldest first
+-- the segments that were not sent, and those that are not acknowledged, the oldest first
 abbrev pub unsent_segments : GroundState → List SegmentView
 unsent_segments s = option_to_list s.fop.waiting ++ s.pending
 
 abbrev pub outstanding : GroundState → List SegmentView
 outstanding s = map (λ u. u.unit) s.fop.sent ++ unsent_segments s
 
--- how many segments were sent and are not acknowledged, after an alert too
+-- how many segments were sent and are not acknowledged; this counts after an alert too
 abbrev pub sent_beyond : GroundState → ℕ
 sent_beyond s = ahead_by s.fop.vs s.fop.nn
 
@@ -108,12 +108,12 @@ sent_beyond s = ahead_by s.fop.vs s.fop.nn
 abbrev pub segments_on : GroundState → ℕ → List ℕ → List SegmentView
 segments_on s m octets = segments_of s.config.part m octets
 
--- the segments that were not sent, with the new ones, are more than the queue slots
+-- the unsent segments together with the new ones exceed the queue slots
 abbrev pub is_over_slots : GroundState → ℕ → List ℕ → Bool
 is_over_slots s m octets =
     nat_lt s.config.queue_slots (length (unsent_segments s) + length (segments_on s m octets))
 
--- the first of the refusals that applies
+-- the first fault that applies
 abbrev pub submit_fault : GroundState → ℕ → List ℕ → Option LinkFault
 submit_fault s m octets =
     if is_closed s.fop.state then Some NotOpen
@@ -130,14 +130,14 @@ after_submission s m octets =
       fates = with_submission (length (segments_on s m octets)) s.fates;
     })
 
--- the call is refused, or the ground is the next
+-- the call is refused and changes nothing, or it leaves the next state
 abbrev pub unless_refused : Option LinkFault → GroundState → GroundState
     → GroundOutcome (Result (Unit {0}) LinkFault)
 unless_refused None s next = record { answer = Ok tt; after = next }
 unless_refused (Some fault) s next = record { answer = Err fault; after = s }
 
--- what a call answers that submits, and the ground before and after it: it is refused for this
--- fault, or has this outcome, or there was no memory and the ground is as it was
+-- The result of a call that submits, and the ground before and after it. The call is refused with
+-- this fault, or it has this outcome, or it runs out of memory and the ground is unchanged.
 pub record Submits (fault : Option LinkFault)
     (outcome : GroundOutcome (Result (Unit {0}) LinkFault)) (old new : GroundState)
     (result : Result (Unit {0}) LinkFault) : Type 0 where
@@ -147,7 +147,7 @@ pub record Submits (fault : Option LinkFault)
   pub memory : fault ≡ None → IsOkUnless result Memory
   pub err : OnErr result (new ≡ old)
 
--- ---- packets are sent past the sequence control, each as one segment that stands alone
+-- ---- packets are sent by bypass (Type-BD), each as one segment flagged alone
 
 abbrev pub bypass_fault : GroundState → ℕ → List ℕ → Option LinkFault
 bypass_fault s m octets =
@@ -164,11 +164,11 @@ after_bypass s m octets =
 
 -- ---- directives and ticks
 
--- what the sender answers, and the ground after it
+-- the sender's answer, and the ground after its step
 abbrev pub sender_outcome : {A : Type 0} → GroundState → FopOutcome SegmentView A → GroundOutcome A
 sender_outcome s outcome = record { answer = outcome.answer; after = with_fop s outcome.after }
 
--- a directive that is refused changes nothing
+-- a refused directive changes nothing
 abbrev pub after_directive : GroundState → Directive → Result (Option Alert) CopFault
     → FopState SegmentView → GroundState
 after_directive s directive (Ok alert) fop =
@@ -188,30 +188,30 @@ abbrev pub ground_directive : GroundState → Directive
 ground_directive s directive =
     directive_outcome s directive (sender.fop_step s.fop (sender.Direct directive))
 
--- ---- a session goes on after an alert
+-- ---- the next session resumes after an alert
 
--- how many submissions are known to be on board whole by a report of this value, modulo 2^64: those
--- that are acknowledged, and those all of whose segments it says were accepted; none where nothing
--- is known
+-- How many submissions are known, from a CLCW with this value, to be on board whole, modulo 2^64.
+-- They are those that are acknowledged, and those whose segments were all accepted according to the
+-- CLCW. None if nothing is known.
 abbrev pub known_on_board : GroundState → ℕ → Option ℕ
 known_on_board s value =
     if s.fates.kept
     then option_map (λ k. whole_with k s.fates) (accepted_beyond s.fop.nn s.fop.vs value)
     else None
 
--- the same where the sender is in S6, in which the next session may begin
+-- the same number in S6, from which the next session may begin; None in any other state
 abbrev pub known_at_end : GroundState → ℕ → Option ℕ
 known_at_end s value = if is_closed s.fop.state then known_on_board s value else None
 
 abbrev pub can_resume : GroundState → ℕ → Bool
 can_resume s value = is_some (known_at_end s value)
 
--- V(S) is set to the value, and a session begins by Unlock
+-- V(S) is set to the value, and a session begins with Unlock
 abbrev pub after_resuming : GroundState → ℕ → GroundState
 after_resuming s value =
     (ground_directive (ground_directive s (SetVs value)).after InitUnlock).after
 
--- where it is known how many submissions of the session that ended are on board; or it is refused
+-- resumes if it is known how many submissions of the session that ended are on board; else refuses
 abbrev pub resumed_from : GroundState → ℕ → Option ℕ → GroundOutcome (Result ℕ LinkFault)
 resumed_from s value (Some whole) = record { answer = Ok whole; after = after_resuming s value }
 resumed_from s value None = record { answer = Err NotKnown; after = s }
@@ -222,7 +222,7 @@ ground_resume s value = resumed_from s value (known_at_end s value)
 abbrev pub ground_tick : GroundState → GroundOutcome (Option Alert)
 ground_tick s = sender_outcome s (sender.fop_step s.fop sender.Tick)
 
--- ---- what goes on the link next, as a frame (CCSDS 232.0-B-4, 4.1)
+-- ---- the next frame to be sent (CCSDS 232.0-B-4, 4.1)
 
 abbrev pub frame_of : Config → BodyView → FrameView
 frame_of c body = record { scid = c.scid; vcid = c.vcid; body = body }
@@ -241,15 +241,15 @@ ground_pull s = record {
 
 -- ---- telemetry arrives
 
--- the ground once the packets of a frame were taken out
+-- the ground after it has extracted a frame's packets
 abbrev pub after_extraction : GroundState → Extracted → GroundState
 after_extraction s x = record s { extractor = x.after; telemetry = s.telemetry ++ x.packets }
 
--- how many segments are acknowledged where NN(R) goes from one number to another
+-- how many segments are acknowledged when NN(R) moves from the old number to the new one
 abbrev pub moved_by : (new old : ℕ) → ℕ
 moved_by new old = if new == old then 0 else ahead_by new old
 
--- the sender obeys a report, by which segments may be acknowledged, and of which an alert may come
+-- the sender processes a CLCW, which may acknowledge segments and may raise an alert
 abbrev pub acknowledging : GroundState → FopOutcome SegmentView (Option Alert) → GroundState
 acknowledging s o = record s {
   fates = beside_alert o.answer (after_acknowledging (moved_by o.after.nn s.fop.nn) s.fates);
@@ -258,7 +258,7 @@ acknowledging s o = record s {
 abbrev pub after_report : GroundState → FopOutcome SegmentView (Option Alert) → GroundState
 after_report s o = with_fop (acknowledging s o) o.after
 
--- a report reaches the sender where it is one of this ground's virtual channel
+-- a CLCW reaches the sender if it is of this ground's virtual channel
 abbrev pub report_outcome : GroundState → Result Clcw ClcwFault → GroundOutcome HeardClcw
 report_outcome s (Err fault) = record {
   answer = record { report = Refused fault; alert = None };
@@ -274,7 +274,7 @@ report_outcome s (Ok report) =
     }
     else record { answer = record { report = OtherChannel; alert = None }; after = s }
 
--- with the packets of its frame
+-- the CLCW's outcome, with the packets of its frame
 abbrev pub beside_packets : Extracted → GroundOutcome HeardClcw → GroundOutcome Heard
 beside_packets x o = record {
   answer = Frame x.gap (length x.packets) o.answer.report o.answer.alert;
@@ -302,8 +302,8 @@ telemetry_outcome s (Ok frame) =
 abbrev pub ground_telemetry : GroundState → List ℕ → GroundOutcome Heard
 ground_telemetry s octets = telemetry_outcome s (frame_at s.config.frame_length octets)
 
--- no packet is finished with the octets that arrive: they are no frame, or a frame of another
--- channel, or one that finishes none
+-- The octets that arrive finish no packet. They do not form a valid frame, or the frame is of
+-- another spacecraft or virtual channel, or it finishes no packet.
 abbrev pub FinishesNothing : GroundState → Result telemetry.FrameView TmFault → Type 0
 FinishesNothing s (Err fault) = Unit {0}
 FinishesNothing s (Ok frame) =
@@ -328,17 +328,17 @@ pub data GroundEvent : Type 0 where
   Submit : (on_map : ℕ) (octets : List ℕ) → GroundEvent
   Bypass : (on_map : ℕ) (octets : List ℕ) → GroundEvent
   Direct : (directive : Directive) → GroundEvent
-  -- a session goes on after an alert, by a report's value
+  -- the next session resumes after an alert, from the value of a CLCW
   Resume : (value : ℕ) → GroundEvent
   Pull : GroundEvent
   Tick : GroundEvent
   Telemetry : (octets : List ℕ) → GroundEvent
-  -- a report that comes by itself, without a telemetry frame
+  -- a CLCW that arrives by itself, without a telemetry frame
   ControlWord : (octets : List ℕ) → GroundEvent
   TakeTelemetry : GroundEvent
   ForgetTelemetry : GroundEvent
 
--- what is answered to a call; to a pull the frame that is sent
+-- the type of each call's return value; a pull returns the frame that is sent
 abbrev pub GroundAnswer : GroundEvent → Type 0
 GroundAnswer (Submit m octets) = Result (Unit {0}) LinkFault
 GroundAnswer (Bypass m octets) = Result (Unit {0}) LinkFault

@@ -1,4 +1,4 @@
--- What a ground holds at most, by its configuration.
+-- The bounds on what a ground holds, from its configuration.
 use Rattle.std.specs.Prelude.{◌≡◌, ◌≤◌, ◌+◌, ◌/◌, ℕ, List, length, option_to_list}
 use Rattle.std.specs.List.{AllByRecursion}
 use Rattle.tc_frame.specs.Layout.{SegmentView}
@@ -10,30 +10,30 @@ use Rattle.nodes.specs.Ground.{GroundState, unsent_segments, outstanding}
 abbrev pub AreShort : ℕ → List SegmentView → Type 0
 AreShort most segments = AllByRecursion (λ (s : SegmentView). length s.payload ≤ most) segments
 
--- what every ground keeps to; the packets of telemetry that wait to be taken have no bound
+-- the bounds of every ground; the telemetry packets that wait to be taken have no bound
 pub record IsBounded (s : GroundState) : Type 0 where
   -- the segments that were sent and are not acknowledged
   pub sent : length s.fop.sent ≤ s.config.width / 2
-  -- those that were not sent
+  -- the segments that were not sent
   pub unsent : length (unsent_segments s) ≤ s.config.queue_slots
-  -- the octets of each of them
+  -- the data octets of each of these segments
   pub parts : AreShort s.config.part (outstanding s)
-  -- the packets past the sequence control, each as one segment
+  -- the bypass packets, each as one segment
   pub past : length s.fop.bypass ≤ s.config.queue_slots
   pub past_parts : AreShort s.config.part s.fop.bypass
   pub past_packets : AreShort s.config.max_packet s.fop.bypass
   -- the submissions that are not acknowledged whole
   pub submissions : length s.fates.left ≤ s.config.width / 2 + s.config.queue_slots
-  -- the octets of the packet of telemetry that has begun to come
+  -- the octets of the telemetry packet that has arrived in part
   pub begun : length s.extractor.part ≤ 65541
 
--- The same, as the fields of a ground keep to it.
+-- The same bounds on the fields of a ground.
 
 abbrev pub AreSentShort : ℕ → List (SentUnit SegmentView) → Type 0
 AreSentShort most sent =
     AllByRecursion (λ (u : SentUnit SegmentView). length u.unit.payload ≤ most) sent
 
--- what its sender keeps to; how many segments are sent is the sender's own
+-- the bounds of the ground's sender; the sender itself bounds the number of sent segments
 pub record IsSenderOf (c : Config) (f : FopState SegmentView) : Type 0 where
   pub room : f.room ≡ c.width / 2
   pub sent : AreSentShort c.part f.sent

@@ -1,4 +1,4 @@
--- How a ground's fields stand for its state.
+-- The state that a ground's fields represent, and the invariant of the fields.
 use Rattle.std.specs.Prelude.{◌≡◌, ◌≢◌, ◌≤◌, ◌+◌, ◌/◌, [], ◌++◌, length, true}
 use Rattle.std.specs.Prelude.{option_to_list}
 use Rattle.std.specs.List.{AllByRecursion}
@@ -22,19 +22,20 @@ state_of s = record {
   fates = fates_of s.acknowledged s.left.items s.kept;
 }
 
--- what the fields keep to
+-- the invariant of the fields
 pub record IsSound (s : Inside) : Type 0 where
   pub config : IsConfig s.config
-  -- all segments that may wait have room
+  -- there is room for all segments that may wait
   pub room : s.config.queue_slots ≤ deque_capacity s.pending
-  -- what waits to be taken is packets, each exactly one
+  -- each item that waits to be taken is exactly one packet
   pub packets :
       AllByRecursion (λ p. is_packet p ≡ true)
       (octets_of s.waiting.items ++ octets_of s.finished.items)
-  -- once all that is sent and waits is acknowledged every submission is whole, and all have room
+  -- once all outstanding segments are acknowledged, every submission is whole; all submissions have
+  -- room
   pub owed : s.fop.state ≢ S6 → left_after (length (outstanding (state_of s))) s.left.items ≡ []
   pub places : s.config.queue_slots + 127 ≤ deque_capacity s.left
-  -- no more of each is held than the configuration lets
+  -- the configuration bounds each of these
   pub sender : IsSenderOf s.config s.fop
   pub unsent : length (option_to_list s.fop.waiting) + length s.pending.items ≤ s.config.queue_slots
   pub parts : AreShort s.config.part s.pending.items

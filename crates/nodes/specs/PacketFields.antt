@@ -1,4 +1,4 @@
--- How the fields of a packet on board stand for it, and which packets these are.
+-- The packet that the fields of a packet on board represent, and which packets these are.
 use Rattle.std.specs.Prelude.{◌≡◌, ◌<◌, true}
 use Rattle.map_service.specs.Packets.{is_packet}
 use Rattle.nodes.specs.Packets.{PacketOn}

@@ -1,4 +1,4 @@
--- Packets, with the MAPs that they are on.
+-- Packets, each with its MAP.
 use Rattle.std.specs.Prelude.{ℕ, List, map, length, ◌≤◌}
 use Rattle.std.specs.List.{AllByRecursion}
 use Rattle.std.specs.Borrow.{Bor}
@@ -15,14 +15,14 @@ packet_on m octets = record { on_map = m; octets = octets }
 abbrev pub put_on_map : ℕ → List (List ℕ) → List PacketOn
 put_on_map m packets = map (packet_on m) packets
 
--- each has at most this many octets
+-- each packet has at most this many octets
 abbrev pub AreWithin : ℕ → List PacketOn → Type 0
 AreWithin most packets = AllByRecursion (λ (p : PacketOn). length p.octets ≤ most) packets
 
--- as it is handed out, without where it lies in memory
+-- a packet as a call returns it, without its place in memory
 abbrev pub packet_view : {Z : Type 0} → ℕ × Vec ℕ Z → PacketOn
 packet_view p = packet_on p.0 p.1.items
 
--- as it is lent
+-- a packet as a call lends it
 abbrev pub lent_packet : ℕ × Bor (List ℕ) → PacketOn
 lent_packet p = packet_on p.0 p.1.now

@@ -1,5 +1,6 @@
--- The managed parameters: the table of their names, ranges and default values; a parameter of a
--- configuration; the first that is out of its range; what the segmentation service keeps to.
+-- The managed parameters. The table contains their names, ranges and defaults. Further definitions:
+-- a parameter's value in a configuration, the first parameter that is out of range, and the limits
+-- of the segmentation service.
 use Rattle.std.specs.Prelude.{◌≡◌, ◌≤◌, ℕ, ◌/◌, ◌%◌, ◌^◌, ◌-◌, nat_le, List, [], ◌∷◌, codes}
 use Rattle.std.specs.Prelude.{Bool, true, not, ◌&&◌, ◌==◌, Option, option_map}
 use Rattle.std.specs.List.{find}
@@ -30,7 +31,7 @@ row name least most default = record {
   default = default;
 }
 
--- besides, `width` is even, and `window` no more than half of `width`; `maps` is any 64 bits
+-- in addition, `width` is even, and `window` is at most half of `width`; `maps` is any 64 bits
 abbrev pub row_of : Parameter → Row
 row_of Scid = row (codes "scid") 0 1023 1
 row_of Vcid = row (codes "vcid") 0 63 2
@@ -48,13 +49,13 @@ row_of QueueSlots = row (codes "queue_slots") 1 65535 1000
 row_of FrameLength = row (codes "frame_length") 16 2048 64
 row_of Blocking = row (codes "blocking") 0 1 0
 
--- all of them, in the order in which they are judged
+-- all parameters, in the order in which they are checked
 abbrev pub all_in_order : List Parameter
 all_in_order =
     Scid ∷ Vcid ∷ TmVcid ∷ Width ∷ Window ∷ Limit ∷ Timer ∷ Part ∷ MaxPacket ∷ Maps ∷ ReadySlots
     ∷ BypassSlots ∷ QueueSlots ∷ FrameLength ∷ Blocking ∷ []
 
--- the parameter that has this name
+-- the parameter with this name
 abbrev pub parameter_named : List ℕ → Option Parameter
 parameter_named name = find (λ parameter. bytes_eq name (row_of parameter).name) all_in_order
 
@@ -77,7 +78,7 @@ value_of c QueueSlots = c.queue_slots
 value_of c FrameLength = c.frame_length
 value_of c Blocking = c.blocking
 
--- the greatest number that its field holds
+-- the greatest number that the parameter's field can hold
 abbrev pub greatest_of : Parameter → ℕ
 greatest_of Maps = 2 ^ 64 - 1
 greatest_of parameter = 2 ^ 32 - 1
@@ -125,22 +126,22 @@ default_config = record {
 abbrev pub is_within : ℕ → Row → Bool
 is_within n bounds = nat_le bounds.least n && nat_le n bounds.most
 
--- a row says a parameter's range, but for what is said here besides
+-- a parameter's row defines its range; the first three equations define the exceptions
 abbrev pub is_in_range : Config → Parameter → Bool
 is_in_range c Width = is_within c.width (row_of Width) && (c.width % 2 == 0)
 is_in_range c Window = is_within c.window (row_of Window) && nat_le c.window (c.width / 2)
 is_in_range c Maps = true
 is_in_range c parameter = is_within (value_of c parameter) (row_of parameter)
 
--- the first parameter that is out of its range
+-- the first parameter that is out of range
 abbrev pub out_of_range : Config → Option Parameter
 out_of_range c = find (λ parameter. not (is_in_range c parameter)) all_in_order
 
--- its name
+-- the name of that parameter
 abbrev pub config_fault : Config → Option (List ℕ)
 config_fault c = option_map (λ parameter. (row_of parameter).name) (out_of_range c)
 
--- each field is in its range; `maps` is any 64 bits
+-- each field is in range; `maps` is any 64 bits
 pub record IsConfig (c : Config) : Type 0 where
   pub scid : c.scid ≤ 1023
   pub vcid : c.vcid ≤ 63

@@ -1,4 +1,4 @@
--- A code of segments, by which proofs tell lists of them apart.
+-- An encoding of segments. Proofs use it to distinguish lists of segments.
 use Rattle.std.specs.Prelude.{◌≡◌, ℕ, List, refl}
 use Rattle.std.proofs.Common.{ap}
 use Rattle.std.specs.Coded.{Coded, code_by, coded×, coded_list, coded_ℕ}

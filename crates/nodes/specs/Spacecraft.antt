@@ -1,4 +1,4 @@
--- The spacecraft: what it holds, and what each of its calls answers and leaves.
+-- The spacecraft: its state, and the return value and the final state of each call.
 use Rattle.std.specs.Prelude.{◌≡◌, ℕ, List, [], ◌∷◌, ◌++◌, length, Bool, true, false, ◌&&◌, ◌==◌}
 use Rattle.std.specs.Prelude.{nat_lt, if◌then◌else◌, Option, Some, None, Result, Ok, Err}
 use Rattle.circular_buffer.specs.Buffer.{keep_last}
@@ -38,13 +38,13 @@ pub record SpacecraftState : Type 0 where
   pub config : Config
   -- the receiver, FARM-1
   pub farm : FarmState
-  -- the segments of all Type-AD frames that were accepted, in their order
+  -- the segments of all accepted Type-AD frames, in order
   pub accepted : List SegmentView
-  -- the packets of these frames, and those of Type-BD frames, that wait to be taken, the oldest
-  -- first
+  -- the packets that wait to be taken, the oldest first: from Type-AD frames, and from Type-BD
+  -- frames
   pub ready : List PacketOn
   pub bypass : List PacketOn
-  -- what builds the telemetry frames
+  -- the builder of telemetry frames
   pub builder : BuilderState
 
 abbrev pub SpacecraftOutcome : Type 0 → Type 0
@@ -60,15 +60,15 @@ new_spacecraft c = record {
   builder = new_builder c.scid c.tm_vcid c.frame_length;
 }
 
--- a new one that goes on with kept numbers, as after a restart on purpose: packets and parts of
--- packets that were on board are gone, and the receiver is open with no flag
+-- A new spacecraft that continues with kept numbers, as after a restart on purpose. The packets and
+-- parts of packets that were on board are lost, and the receiver is open with no flag set.
 abbrev pub restarted_spacecraft : Config → KeptNumbers → SpacecraftState
 restarted_spacecraft c kept = record (new_spacecraft c) {
   farm = record (new_farm c.width kept.vr) { farm_b = kept.farm_b };
   builder = builder_with_counts c.scid c.tm_vcid c.frame_length kept.mc_count kept.vc_count;
 }
 
--- the numbers that it goes on with, as they are now
+-- the current numbers, with which a restarted spacecraft continues
 abbrev pub kept_numbers : SpacecraftState → KeptNumbers
 kept_numbers s = record {
   vr = s.farm.vr;
@@ -77,7 +77,7 @@ kept_numbers s = record {
   vc_count = s.builder.vc_count;
 }
 
--- the buffer is free where fewer packets than the ready slots wait
+-- the buffer is free while fewer packets are ready than there are ready slots
 abbrev pub is_free : SpacecraftState → Bool
 is_free s = nat_lt (length s.ready) s.config.ready_slots
 
@@ -86,7 +86,7 @@ after_farm s event = record s { farm = farm_step s.farm event }
 
 -- ---- a Type-AD frame arrives
 
--- the one verdict with which data are handed on
+-- the only verdict with which a frame's data are passed on
 abbrev pub is_accepted : Verdict → Bool
 is_accepted Accepted = true
 is_accepted Ahead = false
@@ -95,7 +95,7 @@ is_accepted Behind = false
 is_accepted Outside = false
 is_accepted Discarded = false
 
--- what a segment more does after those that were accepted (CCSDS 232.0-B-4, 4.1.3.2)
+-- the outcome of one more segment after those that were accepted (CCSDS 232.0-B-4, 4.1.3.2)
 abbrev pub assemble_step : SpacecraftState → SegmentView → TakeOutcome
 assemble_step s segment =
     take_step (limits_of s.config) (open_part (limits_of s.config) segment.header.map s.accepted)
@@ -107,7 +107,7 @@ after_segment s segment = record s {
   ready = s.ready ++ put_on_map segment.header.map (assemble_step s segment).packets;
 }
 
--- how many packets are ready with the segment, and what is dropped
+-- the number of packets that the segment makes ready, and the cause if octets are dropped
 abbrev pub hand_on_step : SpacecraftState → SegmentView → SpacecraftOutcome (ℕ × Option Dropped)
 hand_on_step s segment = record {
   answer = (length (assemble_step s segment).packets, (assemble_step s segment).dropped);
@@ -133,7 +133,7 @@ receive_sequence_step s n segment = sequence_outcome s n segment (verdict_of s.f
 
 -- ---- a Type-BD frame arrives
 
--- where as many packets wait as there are slots, the oldest goes
+-- if as many packets wait as there are bypass slots, the oldest is discarded
 abbrev pub packets_kept : SpacecraftState → PacketOn → List PacketOn
 packets_kept s packet = keep_last s.config.bypass_slots (s.bypass ++ packet ∷ [])
 
@@ -177,21 +177,21 @@ frame_outcome s (Ok frame) =
 abbrev pub spacecraft_receive : SpacecraftState → List ℕ → SpacecraftOutcome Received
 spacecraft_receive s octets = frame_outcome s (frame_at On octets)
 
--- a frame's data are handed on: it is of Type-AD and accepted, or of Type-BD and kept
+-- a frame's data are passed on: the frame is Type-AD and accepted, or Type-BD and kept
 abbrev pub hands_on : SpacecraftState → BodyView → Bool
 hands_on s (Ad n segment) = is_accepted (verdict_of s.farm n (is_free s))
 hands_on s (Bd segment) = is_kept s.config segment
 hands_on s (Bc command) = false
 
--- nothing is handed on of octets that arrive: they are no frame, or one of another spacecraft or
--- virtual channel, or one whose data are not handed on
+-- No data are passed on from the octets that arrive. They do not form a valid frame, or the frame
+-- is of another spacecraft or virtual channel, or its data are not passed on.
 abbrev pub HandsNothingOn : SpacecraftState → Result FrameView TcFault → Type 0
 HandsNothingOn s (Err fault) = Unit {0}
 HandsNothingOn s (Ok frame) = is_own_frame s.config frame ≡ true → hands_on s frame.body ≡ false
 
 -- ---- packets are taken
 
--- taking a packet is the release where fewer packets than the ready slots wait then
+-- taking a packet releases the buffer if fewer packets than the ready slots are then left
 abbrev pub after_take : SpacecraftState → List PacketOn → SpacecraftState
 after_take s left = record s {
   ready = left;
@@ -223,7 +223,7 @@ spacecraft_telemetry s packet =
     }
     else record { answer = Err NotAPacket; after = s }
 
--- the octets that report on the receiver (CCSDS 232.0-B-4, 4.2)
+-- the octets of the receiver's CLCW (CCSDS 232.0-B-4, 4.2)
 abbrev pub report_octets : SpacecraftState → List ℕ
 report_octets s = words.spelling (report_of s.farm s.config.vcid)
 
@@ -247,7 +247,7 @@ pub data SpacecraftEvent : Type 0 where
   Telemetry : (packet : List ℕ) → SpacecraftEvent
   Report : SpacecraftEvent
 
--- what is answered to a call; to a report the frame that is sent
+-- the type of each call's return value; a report returns the frame that is sent
 abbrev pub SpacecraftAnswer : SpacecraftEvent → Type 0
 SpacecraftAnswer (Receive octets) = Received
 SpacecraftAnswer Take = Option PacketOn

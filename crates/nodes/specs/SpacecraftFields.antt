@@ -1,4 +1,4 @@
--- How a spacecraft's fields stand for its state.
+-- The state that a spacecraft's fields represent, and the invariant of the fields.
 use Rattle.std.specs.Prelude.{◌≡◌, ◌<◌, ◌≤◌}
 use Rattle.std.specs.VecDeque.{deque_capacity}
 use Rattle.map_service.specs.Exactness.{HasPartsOf}
@@ -19,22 +19,22 @@ state_of s = record {
   builder = s.builder;
 }
 
--- frames of the length and the virtual channel that are configured
+-- the builder makes frames of the configured length, spacecraft and virtual channel
 pub record IsBuilderOf (c : Config) (b : BuilderState) : Type 0 where
   pub scid : b.scid ≡ c.scid
   pub vcid : b.vcid ≡ c.tm_vcid
   pub total : b.total ≡ c.frame_length
 
--- what the fields keep to
+-- the invariant of the fields
 pub record IsSound (s : Inside) : Type 0 where
   pub vcid : s.config.vcid < 64
   pub limits : s.assembler.limits ≡ limits_of s.config
-  -- the assembler keeps the open parts of the segments that were accepted
+  -- the assembler holds the open parts that the accepted segments leave
   pub parts : HasPartsOf s.assembler s.accepted.segments
   pub slots : s.bypass.capacity ≡ s.config.bypass_slots
-  -- one more frame's packets have room where the buffer is free
+  -- if the buffer is free, there is room for the packets of one more frame
   pub room : most_ready s.config ≤ deque_capacity s.ready
   pub frames : IsBuilderOf s.config s.builder
-  -- no more packets wait than the configuration lets
+  -- the configuration bounds the packets that wait
   pub waiting : IsReadyWithin s.config s.ready.items
   pub past : IsPastWithin s.config s.bypass.items

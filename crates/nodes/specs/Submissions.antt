@@ -1,4 +1,4 @@
--- What is known of packets that are to be submitted, before anything changes.
+-- What is known of packets to be submitted, before anything changes.
 use Rattle.std.specs.Prelude.{◌≡◌, ℕ, List, [], ◌∷◌, Option, Some, None}
 use denote.Bor.{Bor}
 use Rattle.std.specs.declared.alloc.Global.{Global}
@@ -23,8 +23,8 @@ abbrev pub segments_held : Segments → List SegmentView
 segments_held (segments.One segment) = segment ∷ []
 segments_held (segments.Several segments) = segments.items
 
--- a ground in this state does not refuse its octets on its MAP, and makes these packets and
--- segments of them
+-- A ground in this state does not refuse the submission's octets on its MAP. The submission holds
+-- the packets and the segments of these octets.
 pub record IsSubmissionAt (s : GroundState) (b : Submission) : Type 0 where
   pub fault : submit_fault s b.map b.octets.now ≡ None
   pub packets : packets_held b.packets ≡ packets_in b.octets.now

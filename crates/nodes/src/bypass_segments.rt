@@ -1,4 +1,4 @@
-// Which segments of Type-BD frames are kept.
+// Which segments of Type-BD frames a spacecraft keeps.
 
 ghost use Rattle.std.specs.Prelude.{◌≡◌};
 ghost use Rattle.tc_frame.specs.Layout.{segment_view};
@@ -8,8 +8,8 @@ use crate::config::Config;
 use space_packet::is_packet;
 use tc_frame::{Segment, SegmentFlags};
 
-// Whether a segment is kept: its MAP is open, it stands alone, and it is one packet that is not too
-// long.
+// Returns whether a segment is kept: its MAP is open, it is flagged alone, and it is one packet that is
+// not too long.
 pub(crate) fn is_kept(config: &Config, segment: &Segment<'_>) -> bool
     ensures { result ≡ is_kept config.now (segment_view segment.now) }
 {

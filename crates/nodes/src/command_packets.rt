@@ -11,15 +11,15 @@ use map_service::Limits;
 use space_packet::{Packet, PacketKind, decode, is_idle_apid};
 use std::alloc::Global;
 
-// The packets of a submission: its octets are one, or several are in them.
+// The packets of a submission: its octets as a single packet, or the list of several packets.
 #[derive(Drop)]
 pub(crate) struct Packets<'a> {
     pub(crate) whole: [&'a [u8]; 1],
     pub(crate) several: Option<Vec<&'a [u8]>>,
 }
 
-// The command packets that octets are: exactly one, or with blocking one or more, one after
-// another. Refuses 3 `NotCommand`, then 4 `TooLong`. None where there is no memory for the list.
+// Splits octets into command packets: exactly one or, with blocking, one or more without a gap.
+// Returns None if there is no memory for the list. Refuses 3 `NotCommand`, then 4 `TooLong`.
 pub(crate) fn commands_in<'a>(
     alloc: Global,
     octets: &'a [u8],
@@ -51,7 +51,7 @@ pub(crate) fn commands_in<'a>(
     }))
 }
 
-// Whether the octets are exactly one command packet.
+// Returns whether the octets are exactly one command packet.
 pub(crate) fn is_one_command(octets: &[u8]) -> bool
     ensures { result ≡ are_commands false octets.now }
 {
@@ -61,7 +61,7 @@ pub(crate) fn is_one_command(octets: &[u8]) -> bool
     }
 }
 
-// The command packets that octets are, one or more, as far as there is memory for their list.
+// Splits octets into one or more command packets. The list is complete only if its memory suffices.
 fn several_commands<'a>(
     alloc: Global,
     octets: &'a [u8],
@@ -94,7 +94,7 @@ fn several_commands<'a>(
     if kept { Ok(Some(packets)) } else { Ok(None) }
 }
 
-// Adds octets to a list that is kept so far, and says whether it is kept still.
+// Adds octets to a list that is complete so far, and returns whether the list is still complete.
 fn keep<'a>(kept: bool, list: &mut Vec<&'a [u8]>, octets: &'a [u8]) -> bool
     ensures { result ≡ true → (kept ≡ true)
         × (slices_view list.new.items ≡ slices_view list.old.items ++ octets.now ∷ []) }

@@ -7,8 +7,8 @@ use crate::parameter::{PARAMETERS, Parameter};
 use crate::valid_config::ValidConfig;
 use map_service::Limits;
 
-/// The managed parameters, which both nodes keep to. V(R) and V(S) start at 0. With values of your own:
-/// `Config { scid: 42, ..Config::default() }`. For C the fields lie as they stand here.
+/// The managed parameters, which both nodes use. V(R) and V(S) start at 0. To set values of your own, write
+/// `Config { scid: 42, ..Config::default() }`. For C the fields are laid out in this order.
 #[repr(C)]
 #[derive(Clone, Copy, Debug, PartialEq, Eq)]
 pub struct Config {
@@ -26,22 +26,23 @@ pub struct Config {
     pub limit: u32,
     /// The timer's value in ticks, 1 to 65,535; default 10.
     pub timer: u32,
-    /// The most octets of data in a segment, 1 to 1,016 (without silence before an initiation, segments of
-    /// two longer packets can be joined into a command that nobody submitted); default 1,016.
+    /// The maximum number of data octets in a segment. Without silence before an initiation, segments of two
+    /// longer packets can be joined into a command that nobody submitted. Range 1 to 1,016; default 1,016.
     pub part: u32,
-    /// The most octets of a packet, 7 to 65,542; default 65,542.
+    /// The maximum length of a packet in octets, 7 to 65,542; default 65,542.
     pub max_packet: u32,
-    /// Bit m, which counts 2 to the power of m, says that MAP m is open, any 64 bits; default all ones.
+    /// The open MAPs, any 64 bits: bit m, of value 2 to the power of m, is 1 if MAP m is open; default all
+    /// ones.
     pub maps: u64,
     /// The number of packets waiting to be taken at which the buffer on board is full, 1 to 64; default 64.
     pub ready_slots: u32,
-    /// The most packets of bypass frames that wait to be taken, 1 to 64; default 4.
+    /// The maximum number of bypass packets that wait to be taken, 1 to 64; default 4.
     pub bypass_slots: u32,
-    /// The most units that wait to be sent for the first time, 1 to 65,535; default 1,000.
+    /// The maximum number of units that wait to be sent for the first time, 1 to 65,535; default 1,000.
     pub queue_slots: u32,
-    /// The octets of a telemetry frame, 16 to 2,048; default 64.
+    /// The length of a telemetry frame in octets, 16 to 2,048; default 64.
     pub frame_length: u32,
-    /// 1 where a segment may hold several packets, 0 to 1; default 0.
+    /// 1 if a segment may contain several packets, 0 to 1; default 0.
     pub blocking: u32,
 }
 
@@ -74,8 +75,8 @@ impl Default for Config {
 impl Config {
     ghost use Rattle.nodes.specs.Parameters.{value_of, greatest_of, with_value, is_in_range, out_of_range, config_fault, IsConfig, limits_of};
 
-    /// The name of the first field that is out of its range; where there is none, a `Ground` and a
-    /// `Spacecraft` may be made.
+    /// Returns the name of the first field that is out of range. If it returns None, a `Ground` and a
+    /// `Spacecraft` can be made with this configuration.
     pub fn fault(&self) -> Option<&'static str>
         ensures fault { option_copied result ≡ config_fault self.now }
         ensures none { IsNone result ↔ IsConfig self.now }
@@ -86,8 +87,8 @@ impl Config {
         }
     }
 
-    /// This configuration as one that is valid; the fault is the name of the first field that is out of
-    /// its range.
+    /// Checks this configuration, and returns it as a `ValidConfig`. The fault is the name of the first
+    /// field that is out of range.
     /// Faults: the field's name. Cost: 1.
     pub fn valid(&self) -> Result<ValidConfig, &'static str>
         ensures valid { IfOk result (λ valid. valid ≡ self.now) }
@@ -100,7 +101,7 @@ impl Config {
         }
     }
 
-    /// The value of a parameter.
+    /// Returns the value of a parameter.
     pub fn value(&self, parameter: Parameter) -> u64
         ensures { result ≡ value_of self.now parameter }
     {
@@ -123,7 +124,7 @@ impl Config {
         }
     }
 
-    /// Gives a parameter this value, in its range or not. It has to fit the parameter's field: below
+    /// Sets a parameter to this value, in range or not. The value must fit the parameter's field: below
     /// 2^32, for `maps` below 2^64.
     pub fn set(&mut self, parameter: Parameter, value: u64)
         requires { value ≤ greatest_of parameter }
@@ -148,7 +149,7 @@ impl Config {
         }
     }
 
-    // What the segmentation service keeps to.
+    // Returns the limits of the segmentation service.
     pub(crate) fn limits(&self) -> Limits
         ensures { result ≡ limits_of self.now }
     {
@@ -160,7 +161,7 @@ impl Config {
         }
     }
 
-    // The first parameter that is out of its range.
+    // Returns the first parameter that is out of range.
     fn out_of_range(&self) -> Option<Parameter>
         ensures { result ≡ out_of_range self.now }
     {

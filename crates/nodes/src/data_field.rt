@@ -7,8 +7,8 @@ use crate::fault::LinkFault;
 use std::alloc::Global;
 use tc_frame::Segment;
 
-/// The data field of a frame that carries this segment: the octet of its header, and its data (CCSDS
-/// 232.0-B-4, 4.1.3).
+/// Returns the data field of a frame that carries this segment: the segment header octet and the segment's
+/// data (CCSDS 232.0-B-4, 4.1.3).
 /// Faults: 6 Memory. Memory: yes. Cost: n.
 pub fn data_field_of(alloc: Global, segment: &Segment<'_>) -> Result<Vec<u8>, LinkFault>
     requires { segment.now.header.map < 64 }

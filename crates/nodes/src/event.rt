@@ -1,41 +1,42 @@
-// What may happen on a link between the two nodes.
+// The events of a link between the two nodes.
 
 use cop1::Directive;
 
-/// What may happen on a link between the two nodes. `simulated_link` lets it happen, and scripts spell it.
+/// An event on a link between the two nodes. `simulated_link` runs it, and a script has a line for it.
 #[derive(Clone, Copy, Debug, PartialEq, Eq)]
 pub enum Event<'a> {
     /// Packets are submitted on a MAP.
     Submit(u8, &'a [u8]),
-    /// A packet is to go past the sequence control, on a MAP.
+    /// A packet is submitted on a MAP, to be sent by bypass (Type-BD).
     Bypass(u8, &'a [u8]),
-    /// A directive to the ground's sender.
+    /// The ground's sender is given a directive.
     Directive(Directive),
-    /// The ground goes on after an alert, by a report's value.
+    /// The ground resumes after an alert, from the value of a CLCW.
     Resume(u8),
     /// The ground sends a frame.
     Send,
-    /// The first frame on its way up arrives.
+    /// The first frame in transit on the uplink arrives.
     UpDeliver,
-    /// It is lost.
+    /// The first frame in transit on the uplink is lost.
     UpLose,
-    /// These octets arrive in its place, which are no frame.
+    /// These octets, which do not form a valid frame, arrive instead of the first uplink frame.
     UpDamage(&'a [u8]),
-    /// The spacecraft sends a telemetry frame, which reports.
+    /// The spacecraft sends a telemetry frame with a CLCW.
     Report,
-    /// The first frame on its way down arrives.
+    /// The first frame in transit on the downlink arrives.
     DownDeliver,
-    /// It is lost.
+    /// The first frame in transit on the downlink is lost.
     DownLose,
-    /// These octets arrive in its place, which are no frame.
+    /// These octets, which do not form a valid frame, arrive instead of the first downlink frame.
     DownDamage(&'a [u8]),
-    /// It arrives, and its CLCW alone reaches the ground, as from a front end that hands on control words.
+    /// The first downlink frame arrives, but only its CLCW reaches the ground, as from a front end that
+    /// forwards CLCWs.
     DownClcw,
     /// A tick of the ground's clock passes.
     Tick,
-    /// A packet of sequence-controlled frames is taken on board.
+    /// A packet from sequence-controlled frames is taken on board.
     Take,
-    /// A packet of frames past the sequence control is taken on board.
+    /// A packet from Type-BD frames is taken on board.
     TakeBypass,
     /// A packet is queued on board to be sent as telemetry.
     Telemetry(&'a [u8]),

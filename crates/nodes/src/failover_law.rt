@@ -1,14 +1,16 @@
-// What is so of a ground that goes on where another was lost; this function does nothing.
+// The law of a ground that takes over from one that was lost; the function does nothing.
 
 ghost use Rattle.nodes.specs.Failover.{EachGoesOn};
 
-/// The ground that `Ground::open_at` opens at what `Ground::kept` gave of another, of the same configuration.
-/// It is the other after `Terminate` and `forget_telemetry`, without bypass packets and packets of telemetry,
-/// with the window, the limit and the timer of the configuration, and with the account of the submissions
-/// that were sent whole (`is`). `sent_whole`, `acknowledged_whole` and `known_on_board` return what they did
-/// (`sent`, `acknowledged`, `known`); `resume` is accepted where it is at the other after `Terminate`, and
-/// answers the same (`resumes`). Once it has resumed it is a new ground with V(S) set to the value, whose
-/// session begins by Unlock (`begins`). So whatever holds of a session of a new ground holds of it then.
+/// Relates a ground that `Ground::open_at` opens to the original ground, which returned the record by `kept`.
+/// Both have the same configuration. The opened ground equals the original one after `Terminate` and
+/// `forget_telemetry`, except for the following (`is`). It has no bypass packets and no telemetry packets.
+/// Its window, limit and timer are those of the configuration, and its transmission count is 1. Its
+/// bookkeeping covers only the submissions that were sent whole. `sent_whole`, `acknowledged_whole` and
+/// `known_on_board` return the same at both grounds (`sent`, `acknowledged`, `known`). `resume` answers as at
+/// the original ground after `Terminate` (`resumes`). After it has resumed, the opened ground is a new ground
+/// with V(S) set to the value, whose session begins with Unlock (`begins`). So whatever holds of a session of
+/// a new ground holds of its session.
 pub fn law_of_failover()
     ensures { EachGoesOn }
 {}

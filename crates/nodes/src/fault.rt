@@ -12,29 +12,29 @@ pub enum LinkFault {
     NotOpen = 1,
     /// The MAP is not open.
     ClosedMap = 2,
-    /// The octets are not command packets, or not as many as one call takes.
+    /// The octets are not command packets, or more of them than one call accepts.
     NotCommand = 3,
-    /// A packet has more octets than it may have.
+    /// A packet is longer than the call accepts.
     TooLong = 4,
-    /// As many units as may wait are waiting to be sent.
+    /// There are not enough free queue slots for the units.
     QueueFull = 5,
-    /// There was no memory.
+    /// The node is out of memory.
     Memory = 6,
-    /// Nothing is known of how far the session has come.
+    /// It is not known how far the session has progressed.
     NotKnown = 10,
 }
 
 impl LinkFault {
     ghost use Rattle.nodes.specs.Faults.{fault_row};
 
-    /// The fault's number. 7 to 9 are those of the simulated link.
+    /// Returns the fault's number. The simulated link uses 7 to 9.
     pub fn number(self) -> u8
         ensures { result ≡ (fault_row self).0 }
     {
         self as u8
     }
 
-    /// The fault's name, as it is written here.
+    /// Returns the fault's name, as spelled in this enumeration.
     pub fn name(self) -> &'static str
         ensures { result.now ≡ (fault_row self).1 }
     {

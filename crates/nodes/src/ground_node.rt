@@ -1,4 +1,4 @@
-// The node on the ground.
+// The ground node.
 
 mod fates;
 mod kept;
@@ -21,22 +21,22 @@ use std::mem;
 pub use submission::Submission;
 use tm_link::Extractor;
 
-/// The node on the ground: it cuts packets into segments, sends these in telecommand frames until
-/// the spacecraft reports that it has accepted them, and takes packets out of telemetry frames.
+/// The ground node. It cuts packets into segments, and sends the segments in telecommand frames until
+/// CLCWs acknowledge them. It extracts packets from telemetry frames.
 #[derive(Drop)]
 pub struct Ground {
     alloc: Global,
     config: Config,
     fop: Fop<OwnedSegment>,
     pending: VecDeque<OwnedSegment>,
-    // how many submissions of the session are acknowledged whole, modulo 2^64; how many segments of each
-    // of the others are not, the oldest first; whether V(S) and NN(R) are the session's, and no alert has
-    // shown that a condition is broken
+    // The number of the session's submissions that are acknowledged whole, modulo 2^64. For each other
+    // submission, how many of its segments are not acknowledged, the oldest first. Whether V(S) and NN(R)
+    // are those of the session and no alert has shown a broken condition.
     acknowledged: u64,
     left: VecDeque<usize>,
     kept: bool,
     extractor: Extractor,
-    // the packets of telemetry: those that are taken first, and those that frames finished since
+    // the telemetry packets: those that are taken first, and those that later frames finished
     waiting: VecDeque<Vec<u8>>,
     finished: Vec<Vec<u8>>,
 }
@@ -64,8 +64,8 @@ impl Ground {
     ghost use Rattle.nodes.specs.GroundBounds.{IsBounded};
     ghost use Rattle.nodes.specs.Parameters.{IsConfig};
 
-    /// A ground that has sent nothing, its sender in S6. Each field has to be in its range: of a
-    /// configuration that is known only when the program runs, use `Config::valid` and `of`.
+    /// Returns a ground that has sent nothing, with its sender in S6. Each field must be in range. If the
+    /// configuration is known only at run time, use `Config::valid` and `of`.
     /// Faults: 6 Memory. Memory: yes.
     pub fn new(alloc: Global, config: &Config) -> Result<Ground, LinkFault>
         requires { IsConfig config.now }
@@ -75,7 +75,8 @@ impl Ground {
         Ground::of(alloc, &ValidConfig::of(config))
     }
 
-    /// A ground as `new` makes it, of a configuration that `Config::valid` judged; nothing is asked.
+    /// Returns a ground as `new` does, from a configuration that `Config::valid` returned. The call has no
+    /// precondition.
     /// Faults: 6 Memory. Memory: yes.
     pub fn of(alloc: Global, valid: &ValidConfig) -> Result<Ground, LinkFault>
         ensures made { IfOk result (λ g. g ≡ new_ground valid.now) }
@@ -97,8 +98,8 @@ impl Ground {
         let Ok(pending) = VecDeque::with_capacity(alloc, config.queue_slots as usize) else {
             return Err(LinkFault::Memory);
         };
-        // (each submission has a segment among those that may wait, or those that may be sent, of
-        // which there are 127 at most)
+        // (each submission has a segment among those that may wait or those that may be sent; at most
+        // 127 may be sent)
         let Ok(left) = VecDeque::with_capacity(alloc, config.queue_slots as usize + 127) else {
             return Err(LinkFault::Memory);
         };
@@ -116,7 +117,7 @@ impl Ground {
         })
     }
 
-    /// The sender's state (CCSDS 232.1-B-2, 5.1).
+    /// Returns the sender's state (CCSDS 232.1-B-2, 5.1).
     pub fn state(&self) -> FopMode
         ensures state { result ≡ self.now.fop.state }
         ensures holds { IsFop self.now.fop }
@@ -124,52 +125,52 @@ impl Ground {
         self.fop.state()
     }
 
-    /// V(S), the number of the next segment that is sent for the first time (CCSDS 232.1-B-2, 5.1).
+    /// Returns V(S), the number of the next segment that is sent for the first time (CCSDS 232.1-B-2, 5.1).
     pub fn vs(&self) -> u8
         ensures { result ≡ self.now.fop.vs }
     {
         self.fop.vs()
     }
 
-    /// NN(R), the number that the spacecraft was last known to expect (CCSDS 232.1-B-2, 5.1).
+    /// Returns NN(R), the number that the spacecraft was last known to expect (CCSDS 232.1-B-2, 5.1).
     pub fn nn(&self) -> u8
         ensures { result ≡ self.now.fop.nn }
     {
         self.fop.nn()
     }
 
-    /// How many of the segments that were sent and not acknowledged were accepted on board when a
-    /// report of this value was made, the oldest ones: 0 whatever the value where V(S) is NN(R), so that
-    /// there are none of them; None where there are, and the value does not lie from NN(R) to V(S), so
-    /// that nothing is known of them. After an alert too, in S6, since V(S) and NN(R) stay until V(S) is
-    /// set or an initiation begins (CCSDS 232.1-B-2, 5.1); it goes by these numbers alone, so after an
-    /// alert that shows a broken condition it says nothing of them, whatever it answers. It takes no memory.
+    /// Returns how many segments beyond NN(R), from the oldest, had been accepted on board when a CLCW with
+    /// this value was made. If V(S) is NN(R), no segments were sent and not acknowledged, and it returns 0
+    /// for any value. Otherwise it returns None if the value is not between NN(R) and V(S); then nothing is
+    /// known of these segments. It can be called after an alert too, in S6: V(S) and NN(R) stay until V(S)
+    /// is set or an initiation begins (CCSDS 232.1-B-2, 5.1). It uses only these two numbers, so after an
+    /// alert that shows a broken condition its answer means nothing. It takes no memory.
     pub fn accepted_beyond(&self, value: u8) -> Option<u8>
         ensures { result ≡ accepted_beyond self.now.fop.nn self.now.fop.vs value }
     {
         cop1::accepted_beyond(self.nn(), self.vs(), value)
     }
 
-    /// How many octets a telemetry frame has.
+    /// Returns the length of a telemetry frame in octets.
     pub fn frame_length(&self) -> usize
         ensures { result ≡ self.now.config.frame_length }
     {
         self.config.frame_length as usize
     }
 
-    /// How many segments were submitted and are not acknowledged; 0 after an alert.
+    /// Returns how many segments are submitted and not acknowledged; 0 after an alert.
     #[tactic(auto, using(crate::proofs::GroundBounds::bounded))]
     pub fn outstanding(&self) -> usize
         ensures count { result ≡ length (outstanding self.now) }
         ensures most { result ≤ self.now.config.width / 2 + self.now.config.queue_slots }
 
-        // What a ground holds at most, by its configuration.
+        // The configuration bounds what a ground holds.
         ensures bounds { IsBounded self.now }
     {
         self.fop.sent() + usize::from(self.fop.waiting()) + self.pending.len()
     }
 
-    /// How many segments wait to be sent for the first time.
+    /// Returns how many segments wait to be sent for the first time.
     pub fn unsent(&self) -> usize
         ensures count { result ≡ length (unsent_segments self.now) }
         ensures most { result ≤ self.now.config.queue_slots }
@@ -177,14 +178,14 @@ impl Ground {
         usize::from(self.fop.waiting()) + self.pending.len()
     }
 
-    /// How many segments are due to be sent again.
+    /// Returns how many segments are due to be retransmitted.
     pub fn due(&self) -> usize
         ensures { result ≡ length (due_units self.now.fop.sent) }
     {
         self.fop.due()
     }
 
-    /// How many bypass packets wait to be sent.
+    /// Returns how many bypass packets wait to be sent.
     pub fn bypassed(&self) -> usize
         ensures count { result ≡ length self.now.fop.bypass }
         ensures most { result ≤ self.now.config.queue_slots }
@@ -192,22 +193,23 @@ impl Ground {
         self.fop.bypassed()
     }
 
-    /// The sender's transmission count, at least 1; its limit may be set below it (CCSDS 232.1-B-2, 5.1).
+    /// Returns the sender's transmission count, at least 1 (CCSDS 232.1-B-2, 5.1). The limit may be set to
+    /// less than the count.
     pub fn count(&self) -> u8
         ensures { result ≡ self.now.fop.count }
     {
         self.fop.count()
     }
 
-    /// The ticks that are left, at least 1, where the sender's timer runs.
+    /// Returns the ticks that are left, at least 1, if the sender's timer is running.
     pub fn ticks(&self) -> Option<u16>
         ensures { result ≡ self.now.fop.ticks }
     {
         self.fop.ticks()
     }
 
-    /// Follows a directive; the alert is that of `Terminate` (CCSDS 232.1-B-2, table 5-1). Refuses as
-    /// the sender does.
+    /// Executes a directive (CCSDS 232.1-B-2, table 5-1). Returns an alert for `Terminate`. Refuses what the
+    /// sender refuses.
     /// Faults: those of `CopFault`, 2 Window, 3 Limit, 4 Timer, 8 WrongState. Cost: 1; for `Terminate`
     /// the number of segments released.
     pub fn directive(&mut self, directive: Directive) -> Result<Option<Alert>, CopFault>
@@ -226,8 +228,7 @@ impl Ground {
         Ok(alert)
     }
 
-    /// A tick of the clock has passed; an alert where the sender gives up (CCSDS 232.1-B-2, table
-    /// 5-1).
+    /// Counts a tick of the clock. Returns an alert if the sender gives up (CCSDS 232.1-B-2, table 5-1).
     /// Cost: the number of segments released.
     pub fn tick(&mut self) -> Option<Alert>
         ensures answer { result ≡ (ground_step self.old Tick).answer }
@@ -238,7 +239,7 @@ impl Ground {
         alert
     }
 
-    /// The packet that `take_telemetry` takes next, lent; the ground stays as it is.
+    /// Lends the packet that `take_telemetry` would take next. The ground does not change.
     pub fn peek_telemetry(&self) -> Option<&[u8]>
         ensures { option_copied result ≡ (ground_step self.now TakeTelemetry).answer }
     {
@@ -251,13 +252,13 @@ impl Ground {
         }
     }
 
-    /// Takes the oldest packet that telemetry frames carried (CCSDS 132.0-B-3, 4.3.2).
+    /// Takes the oldest packet from telemetry frames (CCSDS 132.0-B-3, 4.3.2).
     pub fn take_telemetry(&mut self) -> Option<Vec<u8>>
         ensures answer { option_map (λ v. v.items) result
             ≡ (ground_step self.old TakeTelemetry).answer }
         ensures after { self.new ≡ (ground_step self.old TakeTelemetry).after }
 
-        // It is exactly one packet, so at least 7 octets.
+        // The octets are exactly one packet, so there are at least 7.
         ensures packet { IfSome result (λ v. is_packet v.items ≡ true) }
     {
         if self.waiting.is_empty() {
@@ -267,8 +268,8 @@ impl Ground {
         self.waiting.pop_front()
     }
 
-    // Moves the oldest pending segment into the wait queue where its place is free. Once the sender has
-    // given up nothing is pending.
+    // Moves the oldest pending segment into the wait queue if its slot is free. In S6 it discards all
+    // pending segments.
     fn refill(&mut self)
         ensures { self.new ≡ refill_step self.old }
     {
@@ -284,7 +285,7 @@ impl Ground {
         }
     }
 
-    // Whether there is no session (S6).
+    // Returns whether the sender is in S6.
     fn is_closed(&self) -> bool
         ensures { result ≡ is_closed self.now.fop.state }
     {

@@ -1,44 +1,44 @@
-// What the ground makes of the telemetry that it received.
+// The ground's result for telemetry that it received.
 
 use clcw::ClcwFault;
 use cop1::Alert;
 use tm_link::{Gap, TmFault};
 
-/// What the ground makes of octets that it received.
+/// The ground's result for octets that it received.
 #[derive(Clone, Copy, Debug, PartialEq, Eq)]
 pub enum Heard {
-    /// They are no frame.
+    /// The octets do not form a valid frame.
     Invalid(TmFault),
     /// A frame of another spacecraft or virtual channel; nothing changes.
     Foreign,
-    /// A frame of this one.
+    /// A frame of this spacecraft and virtual channel.
     Frame {
-        /// How many frames are missing before it.
+        /// How many frames are missing before this one.
         gap: Gap,
-        /// How many packets more wait to be taken.
+        /// How many more packets wait to be taken.
         packets: usize,
-        /// What becomes of the report that it carries.
+        /// The result for the frame's CLCW.
         report: HeardReport,
-        /// Why the sender has given up, where it has.
+        /// Why the sender has given up, if it has.
         alert: Option<Alert>,
     },
 }
 
-/// What becomes of a report that came by itself.
+/// The ground's result for a CLCW that arrived by itself.
 #[derive(Clone, Copy, Debug, PartialEq, Eq)]
 pub struct HeardClcw {
-    /// What becomes of it.
+    /// The result for the CLCW.
     pub report: HeardReport,
-    /// Why the sender has given up, where it has.
+    /// Why the sender has given up, if it has.
     pub alert: Option<Alert>,
 }
 
-/// What becomes of a report, which a telemetry frame carries, or which comes by itself.
+/// The result for a CLCW, from a telemetry frame or by itself.
 #[derive(Clone, Copy, Debug, PartialEq, Eq)]
 pub enum HeardReport {
-    /// The sender has it.
+    /// The sender has used it.
     Used,
-    /// It is no report.
+    /// It is not a valid CLCW.
     Refused(ClcwFault),
     /// It is of another virtual channel.
     OtherChannel,

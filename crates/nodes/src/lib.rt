@@ -1,10 +1,10 @@
 //! The two nodes of the telecommand link with COP-1 (CCSDS 232.0-B-4, 232.1-B-2), as
-//! docs/PROFILE.md has it.
+//! docs/PROFILE.md defines it.
 //!
-//! A `Config` has the numbers that both nodes keep to. A `Spacecraft` receives telecommand frames,
-//! hands out the packets that they carry, and sends telemetry frames that report on them. A `Ground`
-//! sends telecommand frames until they are accepted, and hands out the packets of telemetry frames.
-//! An `Event` is what may happen on a link between the two.
+//! A `Config` contains the managed parameters of both nodes. A `Spacecraft` receives telecommand
+//! frames, delivers their packets, and sends telemetry frames with CLCWs. A `Ground` sends
+//! telecommand frames until they are acknowledged, and delivers the packets of telemetry frames. An
+//! `Event` is an event on a link between the two.
 #![tactic(auto)]
 
 mod bypass_segments;

@@ -15,7 +15,7 @@ use std::alloc::{AllocError, Global};
 use std::collections::VecDeque;
 use std::marker::Model;
 
-/// A packet that came on a MAP.
+/// A packet that arrived on a MAP.
 #[derive(Drop)]
 pub(crate) struct MapPacket {
     map: u8,
@@ -45,7 +45,7 @@ impl MapPacket {
         MapPacket { map, octets }
     }
 
-    // Its MAP, and its octets lent.
+    // Returns the packet's MAP, and lends its octets.
     pub(crate) fn parts(&self) -> (u8, &[u8])
         ensures { lent_packet result ≡ self.now }
     {
@@ -61,7 +61,7 @@ impl MapPacket {
     }
 }
 
-// Puts the packets of a MAP, for which there is room, after those that are ready.
+// Appends the packets of a MAP to those that are ready. There must be room for them.
 pub(crate) fn make_ready(ready: &mut VecDeque<MapPacket>, on_map: u8, packets: SmallVec<Vec<u8>, 1>)
     requires whole { AllByRecursion IsPacketOn (put_on_map on_map (ready_view packets)) }
     requires room { deque_len ready.old + length (ready_view packets) ≤ deque_capacity ready.old }
@@ -73,7 +73,7 @@ pub(crate) fn make_ready(ready: &mut VecDeque<MapPacket>, on_map: u8, packets: S
     }
 }
 
-// Puts the packet, where there is one, after those that are ready, and says how many it is.
+// Appends the packet, if there is one, to those that are ready. Returns the number of packets appended.
 #[inline(always)]
 pub(crate) fn make_ready_one(
     ready: &mut VecDeque<MapPacket>,
@@ -91,8 +91,8 @@ pub(crate) fn make_ready_one(
     1
 }
 
-// Copies the packets that octets are, for which there is room, after those that are ready, and says how
-// many they are. Where memory is refused, none of them is ready.
+// Copies the packets in octets, and appends the copies to the packets that are ready. There must be room for
+// them. Returns how many there are. If memory runs out, none of them is ready.
 pub(crate) fn make_ready_of(
     alloc: Global,
     ready: &mut VecDeque<MapPacket>,
@@ -116,7 +116,7 @@ pub(crate) fn make_ready_of(
     Ok(ready.len() - before)
 }
 
-// The same, but where memory is refused some of them are ready.
+// Does what `make_ready_of` does, but if memory runs out, some of the packets are ready.
 fn copy_each(
     alloc: Global,
     ready: &mut VecDeque<MapPacket>,

@@ -12,7 +12,7 @@ use std::collections::VecDeque;
 use std::marker::Model;
 use tc_frame::{Segment, SegmentHeader};
 
-/// A segment with the octets that it holds, which fits into a frame.
+/// A segment that owns its octets. It fits into a frame.
 #[derive(Drop)]
 pub(crate) struct OwnedSegment {
     header: SegmentHeader,
@@ -32,7 +32,7 @@ impl Model for OwnedSegment {
 }
 
 impl OwnedSegment {
-    // A copy of a segment.
+    // Returns a copy of a segment.
     pub(crate) fn new(alloc: Global, segment: &Segment<'_>) -> Result<OwnedSegment, LinkFault>
         requires { FitsFrame (segment_view segment.now) }
         ensures copied { IfOk result (λ owned. owned ≡ segment_view segment.now) }
@@ -58,7 +58,7 @@ impl OwnedSegment {
     }
 }
 
-// Copies of segments, in a list that is made once.
+// Returns copies of segments, in a list that is allocated once.
 pub(crate) fn own(
     alloc: Global,
     segments: &[Segment<'_>],

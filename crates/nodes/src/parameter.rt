@@ -23,7 +23,7 @@ pub enum Parameter {
     Blocking,
 }
 
-/// All of them, in the order in which they are judged.
+/// All parameters, in the order in which they are checked.
 pub const PARAMETERS: [Parameter; 15] = [
     Parameter::Scid,
     Parameter::Vcid,
@@ -53,7 +53,7 @@ struct Row {
 impl Parameter {
     ghost use Rattle.nodes.specs.Parameters.{row_of, parameter_named, is_within};
 
-    // Its row of the table.
+    // Returns the parameter's row of the table.
     fn row(self) -> Row
         ensures name { result.name.now ≡ (row_of self).name }
         ensures least { result.least ≡ (row_of self).least }
@@ -78,21 +78,21 @@ impl Parameter {
         }
     }
 
-    /// Its name, which is that of its field in `Config` and its word in scripts.
+    /// Returns the parameter's name, which is also that of its field in `Config` and its word in scripts.
     pub fn name(self) -> &'static str
         ensures { result.now ≡ (row_of self).name }
     {
         self.row().name
     }
 
-    /// The greatest value of its range; half of `width` is another bound of `window`.
+    /// Returns the greatest value of its range. For `window`, half of `width` is a further bound.
     pub fn most(self) -> u64
         ensures { result ≡ (row_of self).most }
     {
         self.row().most
     }
 
-    // Whether its row has this value.
+    // Returns whether this value is within the bounds of its row.
     pub(crate) fn has(self, value: u64) -> bool
         ensures { result ≡ is_within value (row_of self) }
     {
@@ -100,7 +100,7 @@ impl Parameter {
         row.least <= value && value <= row.most
     }
 
-    /// The parameter that has this name, as a script has it.
+    /// Returns the parameter with this name, as in scripts.
     /// Cost: n.
     pub fn named(name: &[u8]) -> Option<Parameter>
         ensures { result ≡ parameter_named name.now }

@@ -1,13 +1,13 @@
-// What a spacecraft makes of what it received.
+// The spacecraft's result for octets that it received.
 
 use cop1::Verdict;
 use map_service::Dropped;
 use tc_frame::{Command, TcFault};
 
-/// What a spacecraft makes of octets that it received.
+/// The spacecraft's result for octets that it received.
 #[derive(Clone, Copy, Debug, PartialEq, Eq)]
 pub enum Received {
-    /// They are no frame.
+    /// The octets do not form a valid frame.
     Invalid(TcFault),
     /// A frame of another spacecraft or virtual channel; nothing changes.
     Foreign,
@@ -15,16 +15,16 @@ pub enum Received {
     Sequence {
         /// Its number, N(S).
         n: u8,
-        /// What the receiver does with it.
+        /// The receiver's verdict.
         verdict: Verdict,
-        /// How many packets it made ready.
+        /// How many packets the frame made ready.
         ready: usize,
-        /// Why octets on its MAP were dropped, where some were.
+        /// Why octets on its MAP were dropped, if any were.
         dropped: Option<Dropped>,
     },
     /// A Type-BD frame.
     Bypass {
-        /// Whether it carried a packet, which is kept.
+        /// Whether it carried a packet that is kept.
         kept: bool,
     },
     /// A Type-BC frame, with its command.

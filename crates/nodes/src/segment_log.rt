@@ -1,4 +1,4 @@
-// The log of the segments that were accepted, for proofs alone.
+// The log of accepted segments, which only proofs use.
 
 ghost use Rattle.std.specs.Prelude.{◌≡◌, List, [], ◌∷◌, ◌++◌};
 ghost use base.Fml.{ftrue};
@@ -9,8 +9,8 @@ ghost use Rattle.nodes.specs.SegmentCode.{segment_code};
 use std::marker::Model;
 use tc_frame::Segment;
 
-/// The segments of the frames that were accepted so far, in their order. It takes no memory, and
-/// nothing of it is left when the program runs.
+/// The segments of the frames accepted so far, in order. The log takes no memory, and does not exist in
+/// the running program.
 #[derive(Drop)]
 pub(crate) struct SegmentLog {
     pub(crate) ghost segments: { List SegmentView } by { coded_list segment_code },
@@ -21,14 +21,14 @@ impl Model for SegmentLog {
 }
 
 impl SegmentLog {
-    /// Before the first.
+    /// Returns an empty log.
     pub(crate) fn new() -> SegmentLog
         ensures { result.segments ≡ [] }
     {
         SegmentLog {}
     }
 
-    /// With one segment more.
+    /// Returns the log with one more segment.
     pub(crate) fn then(&self, _segment: &Segment<'_>) -> SegmentLog
         ensures { result.segments ≡ self.now.segments ++ segment_view _segment.now ∷ [] }
     {

@@ -23,8 +23,8 @@ use std::collections::VecDeque;
 use std::marker::Model;
 use tm_link::{TmBuilder, TmFault};
 
-/// The numbers with which a spacecraft that is restarted on purpose goes on, which the program keeps
-/// meanwhile: those of its receiver (CCSDS 232.1-B-2, 6.1) and of its telemetry frames (CCSDS
+/// The numbers with which a spacecraft continues after a restart on purpose. The program keeps them during
+/// the restart. They are those of its receiver (CCSDS 232.1-B-2, 6.1) and of its telemetry frames (CCSDS
 /// 132.0-B-3, 4.1.2).
 #[derive(Clone, Copy, Debug, PartialEq, Eq)]
 pub struct KeptNumbers {
@@ -38,8 +38,8 @@ pub struct KeptNumbers {
     pub vc_count: u8,
 }
 
-/// The node on board: it receives telecommand frames, keeps the packets that they carry until they
-/// are taken, and sends telemetry frames that report on the receiver.
+/// The node on board. It receives telecommand frames, keeps their packets until they are taken, and sends
+/// telemetry frames with the receiver's CLCW.
 #[derive(Drop)]
 pub struct Spacecraft {
     alloc: Global,
@@ -77,8 +77,8 @@ impl Spacecraft {
     ghost use Rattle.nodes.specs.Parameters.{IsConfig};
     ghost use Rattle.nodes.specs.SpacecraftBounds.{IsBounded};
 
-    /// A spacecraft that has received nothing. Each field has to be in its range: of a configuration
-    /// that is known only when the program runs, use `Config::valid` and `of`.
+    /// Returns a spacecraft that has received nothing. Each field must be in range. If the configuration
+    /// is known only at run time, use `Config::valid` and `of`.
     /// Faults: 6 Memory. Memory: yes.
     pub fn new(alloc: Global, config: &Config) -> Result<Spacecraft, LinkFault>
         requires { IsConfig config.now }
@@ -88,7 +88,8 @@ impl Spacecraft {
         Spacecraft::of(alloc, &ValidConfig::of(config))
     }
 
-    /// A spacecraft as `new` makes it, of a configuration that `Config::valid` judged; nothing is asked.
+    /// Returns a spacecraft as `new` does, from a configuration that `Config::valid` returned. The
+    /// call has no precondition.
     /// Faults: 6 Memory. Memory: yes.
     pub fn of(alloc: Global, valid: &ValidConfig) -> Result<Spacecraft, LinkFault>
         ensures made { IfOk result (λ spacecraft. spacecraft ≡ new_spacecraft valid.now) }
@@ -103,9 +104,10 @@ impl Spacecraft {
         Spacecraft::restarted(alloc, valid.config(), first)
     }
 
-    /// A spacecraft that goes on with numbers that `kept_numbers` gave before a restart on purpose: V(R),
-    /// FARM-B and the counts of telemetry frames. Its receiver is open with no flag, and no packet and no
-    /// part of one is on board. Each field of the configuration has to be in its range, and FARM-B below 4.
+    /// Returns a spacecraft that continues with the numbers that `kept_numbers` returned before a restart on
+    /// purpose: V(R), FARM-B and the counts of telemetry frames. Its receiver is open with no flag set, and
+    /// no packet or part of a packet is on board. Each field of the configuration must be in range, and
+    /// FARM-B must be below 4.
     /// Faults: 6 Memory. Memory: yes.
     pub fn restarted(
         alloc: Global,
@@ -151,11 +153,11 @@ impl Spacecraft {
         })
     }
 
-    /// The numbers with which `restarted` goes on, as they are now.
+    /// Returns the current numbers, with which `restarted` continues.
     pub fn kept_numbers(&self) -> KeptNumbers
         ensures numbers { result ≡ kept_numbers self.now }
 
-        // So `restarted` takes them.
+        // So `restarted` accepts them.
         ensures farm_b { result.farm_b < 4 }
     {
         let farm = self.farm.fields();
@@ -167,8 +169,8 @@ impl Spacecraft {
         }
     }
 
-    /// The packet that `take` takes next, lent, with its MAP; the spacecraft stays as it is. It has at
-    /// most `max_packet` octets.
+    /// Lends the packet that `take` would take next, with its MAP. The packet has at most `max_packet`
+    /// octets. The spacecraft does not change.
     pub fn peek(&self) -> Option<(u8, &[u8])>
         ensures answer { option_map lent_packet result ≡ (spacecraft_step self.now Take).answer }
         ensures within { IfSome result (λ p. length p.1.now ≤ self.now.config.max_packet) }
@@ -179,8 +181,8 @@ impl Spacecraft {
         }
     }
 
-    /// The packet that `take_bypass` takes next, lent, with its MAP; the spacecraft stays as it is. It
-    /// has at most `max_packet` octets.
+    /// Lends the packet that `take_bypass` would take next, with its MAP. The packet has at most
+    /// `max_packet` octets. The spacecraft does not change.
     pub fn peek_bypass(&self) -> Option<(u8, &[u8])>
         ensures answer { option_map lent_packet result
             ≡ (spacecraft_step self.now TakeBypass).answer }
@@ -192,14 +194,14 @@ impl Spacecraft {
         }
     }
 
-    /// Takes the oldest packet that sequence-controlled frames carried, with its MAP (CCSDS
-    /// 232.0-B-4, 4.4): at most `max_packet` octets. There is room on board again where fewer packets
-    /// than the ready slots wait then.
+    /// Takes the oldest packet from sequence-controlled frames, with its MAP (CCSDS 232.0-B-4, 4.4). The
+    /// packet has at most `max_packet` octets. There is room on board again if fewer packets than the
+    /// ready slots are then left.
     pub fn take(&mut self) -> Option<(u8, Vec<u8>)>
         ensures answer { option_map packet_view result ≡ (spacecraft_step self.old Take).answer }
         ensures after { self.new ≡ (spacecraft_step self.old Take).after }
 
-        // It is exactly one packet, on one of the 64 MAPs.
+        // The octets are exactly one packet, on one of the 64 MAPs.
         ensures packet { IfSome result (λ p. IsPacketOn (packet_view p)) }
         ensures within { IfSome result (λ p. length p.1.items ≤ self.old.config.max_packet) }
     {
@@ -212,14 +214,14 @@ impl Spacecraft {
         Some(packet.into_parts())
     }
 
-    /// Takes the oldest packet that frames past the sequence control carried, with its MAP (CCSDS
-    /// 232.0-B-4, 4.4): at most `max_packet` octets.
+    /// Takes the oldest packet from Type-BD frames, with its MAP (CCSDS 232.0-B-4, 4.4). The packet has at
+    /// most `max_packet` octets.
     pub fn take_bypass(&mut self) -> Option<(u8, Vec<u8>)>
         ensures answer { option_map packet_view result
             ≡ (spacecraft_step self.old TakeBypass).answer }
         ensures after { self.new ≡ (spacecraft_step self.old TakeBypass).after }
 
-        // It is exactly one packet, on one of the 64 MAPs.
+        // The octets are exactly one packet, on one of the 64 MAPs.
         ensures packet { IfSome result (λ p. IsPacketOn (packet_view p)) }
         ensures within { IfSome result (λ p. length p.1.items ≤ self.old.config.max_packet) }
     {
@@ -229,8 +231,8 @@ impl Spacecraft {
         }
     }
 
-    /// Queues a packet to be sent as telemetry (CCSDS 132.0-B-3, 4.2.2). Refuses octets that are not
-    /// exactly one packet, or an idle packet. At a fault the spacecraft is as it was.
+    /// Queues a packet to be sent as telemetry (CCSDS 132.0-B-3, 4.2.2). Refuses an idle packet, and octets
+    /// that are not exactly one packet. At a fault the spacecraft is unchanged.
     /// Faults: those of `TmFault`, 8 NotAPacket, then 7 Memory. Memory: yes. Cost: n*.
     pub fn telemetry(&mut self, packet: &[u8]) -> Result<(), TmFault>
         ensures ok { OnOk result
@@ -243,22 +245,22 @@ impl Spacecraft {
         self.builder.queue(packet)
     }
 
-    /// How many packets of sequence-controlled frames wait to be taken.
+    /// Returns how many packets from sequence-controlled frames wait to be taken.
     #[tactic(auto, using(crate::proofs::SpacecraftBounds::bounded))]
     pub fn ready(&self) -> usize
         ensures count { result ≡ length self.now.ready }
 
-        // Those of one frame, at most 145, came while fewer waited than there are slots.
+        // One frame adds at most 145 packets, and only while fewer wait than there are slots.
         ensures most { result ≤ self.now.config.ready_slots + 144 }
         ensures unblocked { self.now.config.blocking ≡ 0 → result ≤ self.now.config.ready_slots }
 
-        // What a spacecraft holds at most, by its configuration.
+        // The configuration bounds what a spacecraft holds.
         ensures bounds { IsBounded self.now }
     {
         self.ready.len()
     }
 
-    /// How many packets of frames past the sequence control wait to be taken.
+    /// Returns how many packets from Type-BD frames wait to be taken.
     pub fn bypassed(&self) -> usize
         ensures count { result ≡ length self.now.bypass }
         ensures most { result ≤ self.now.config.bypass_slots }
@@ -266,21 +268,21 @@ impl Spacecraft {
         self.bypass.len()
     }
 
-    /// How many octets a telemetry frame has.
+    /// Returns the length of a telemetry frame in octets.
     pub fn frame_length(&self) -> usize
         ensures { result ≡ self.now.config.frame_length }
     {
         self.config.frame_length as usize
     }
 
-    /// The receiver's state (CCSDS 232.1-B-2, 6.1.2).
+    /// Returns the receiver's state (CCSDS 232.1-B-2, 6.1.2).
     pub fn state(&self) -> FarmMode
         ensures { result ≡ self.now.farm.state }
     {
         self.farm.state()
     }
 
-    /// The report on the receiver that the next telemetry frame carries (CCSDS 232.0-B-4, 4.2).
+    /// Returns the receiver's CLCW, which the next telemetry frame carries (CCSDS 232.0-B-4, 4.2).
     pub fn control_word(&self) -> Clcw
         ensures report { result ≡ report_of self.now.farm self.now.config.vcid }
         ensures fits { IsTrue (fits result) }
@@ -288,8 +290,8 @@ impl Spacecraft {
         self.farm.report(self.config.vcid as u8)
     }
 
-    /// Writes the next telemetry frame, which reports on the receiver, at the beginning of `out`,
-    /// and says how many octets it has (CCSDS 132.0-B-3, 4.1). Octets past it stay.
+    /// Writes the next telemetry frame, with the receiver's CLCW, at the beginning of `out` (CCSDS
+    /// 132.0-B-3, 4.1). Returns the frame's length in octets. The octets of `out` after it do not change.
     /// Cost: n and the number of packets that end in the frame.
     pub fn report(&mut self, out: &mut [u8; 2048]) -> usize
         ensures count { result ≡ self.old.config.frame_length }
@@ -297,7 +299,7 @@ impl Spacecraft {
             ≡ spelling (spacecraft_step self.old Report).answer ++ drop result out.old }
         ensures after { self.new ≡ (spacecraft_step self.old Report).after }
 
-        // So the octets are this frame, of the spacecraft's own channel.
+        // So the octets encode this frame, of the spacecraft's own channel.
         ensures spells { IsTmFrame result (spacecraft_step self.old Report).answer
             (take result out.new) }
         ensures own { IsOwnFrame self.old.config (spacecraft_step self.old Report).answer }
@@ -308,7 +310,7 @@ impl Spacecraft {
         self.builder.build(ocf, out)
     }
 
-    /// The same, where `out` has as many octets at least as a telemetry frame.
+    /// Does what `report` does; `out` must have at least the length of a telemetry frame.
     /// Cost: n and the number of packets that end in the frame.
     pub fn report_in(&mut self, out: &mut [u8]) -> usize
         requires room { self.old.config.frame_length ≤ length out.old }
@@ -317,7 +319,7 @@ impl Spacecraft {
             ≡ spelling (spacecraft_step self.old Report).answer ++ drop result out.old }
         ensures after { self.new ≡ (spacecraft_step self.old Report).after }
 
-        // So the octets are this frame, of the spacecraft's own channel.
+        // So the octets encode this frame, of the spacecraft's own channel.
         ensures spells { IsTmFrame result (spacecraft_step self.old Report).answer
             (take result out.new) }
         ensures own { IsOwnFrame self.old.config (spacecraft_step self.old Report).answer }
@@ -329,8 +331,8 @@ impl Spacecraft {
     }
 }
 
-// How many packets may wait to be taken. With blocking one frame makes at most 145 ready: its segment has at most
-// 1,016 octets of data, a packet at least 7.
+// Returns for how many waiting packets there is room. With blocking, one frame makes at most 145 packets
+// ready: its segment has at most 1,016 octets of data, and a packet has at least 7.
 fn most_ready(config: &Config) -> usize
     ensures { result ≡ most_ready config.now }
 {
@@ -342,7 +344,7 @@ fn most_ready(config: &Config) -> usize
     }
 }
 
-// A receiver that is open with no flag, and goes on with these numbers.
+// Returns a receiver that is open with no flag set, and continues with these numbers.
 fn farm_with(width: u8, kept: KeptNumbers) -> Farm
     requires width { IsWidth width }
     requires farm_b { kept.farm_b < 4 }

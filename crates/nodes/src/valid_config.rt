@@ -1,9 +1,9 @@
-// A configuration of which each field is in its range.
+// A configuration with each field in range.
 
 use crate::config::Config;
 use std::marker::Model;
 
-/// The managed parameters, each in its range. `Config::valid` makes it, and both nodes are made of it.
+/// The managed parameters, each in range. `Config::valid` returns them, and both nodes are built from them.
 #[derive(Clone, Copy)]
 pub struct ValidConfig {
     config: Config,
@@ -27,7 +27,7 @@ impl ValidConfig {
     ghost use Rattle.std.specs.Prelude.{◌≡◌, ◌≤◌, ◌/◌, ◌%◌};
     ghost use Rattle.nodes.specs.Parameters.{IsConfig};
 
-    /// The configuration, whose fields may be read.
+    /// Returns the configuration, whose fields may be read.
     pub fn config(&self) -> &Config
         ensures value { result.now ≡ self.now }
         ensures valid { IsConfig result.now }
@@ -35,8 +35,8 @@ impl ValidConfig {
         &self.config
     }
 
-    /// A configuration that the prover knows to be valid, as a literal in range. Of another it names the
-    /// field that is out of its range.
+    /// Returns a configuration that the prover knows to be valid, such as a literal in range. For any other
+    /// configuration the prover names the field that is out of range.
     pub fn of(config: &Config) -> ValidConfig
         requires scid { config.now.scid ≤ 1023 }
         requires vcid { config.now.vcid ≤ 63 }

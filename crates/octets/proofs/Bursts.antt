@@ -84,7 +84,7 @@ behind_next : (place : ℕ) (b : Bool) (bits : List Bool) → IsZero (drop (suc 
     → IsZero (drop (place + 16) bits)
 behind_next place b bits h = let e : suc place + 16 ≡ suc (place + 16) = omega arith in rw e at h
 
--- where the bits from the 16th on are 0, a generator taken away would leave its last bit
+-- if the bits from the 16th on are 0, subtracting a generator would leave its last bit
 no_generator : (bits : List Bool) → 16 ≤ length bits → IsZero (drop 15 bits)
     → IsZero (drop 15 (sum_without_carries generator_rest bits)) → ⊥
 no_generator bits long low h =
@@ -96,7 +96,7 @@ drop-IsZero (suc k) [] h = tt
 drop-IsZero (suc k) (true ∷ bits) h = absurd h
 drop-IsZero (suc k) (false ∷ bits) h = drop-IsZero k bits h
 
--- a burst whose remainder is 0 has no bit
+-- a burst whose remainder is 0 has no bit set
 no_burst : (n place : ℕ) (bits : List Bool) → length bits ≡ n + 16 → IsZero (take place bits)
     → IsZero (drop (place + 16) bits) → IsZero (remainder n bits) → IsZero bits
 unfolding remainder
@@ -121,7 +121,7 @@ into_second : (c xs ys : List Bool)
 into_second c xs ys =
     sym (sum-assoc xs c ys) ∙ ap (λ (z : List Bool). sum_without_carries z ys) (sum-comm xs c) ∙ sum-assoc c xs ys
 
--- added to both parts it is gone
+-- what is added to both parts of a sum cancels out
 into_both : (c xs ys : List Bool) → length c ≤ length xs → length xs ≡ length ys
     → sum_without_carries (sum_without_carries c xs) (sum_without_carries c ys) ≡ sum_without_carries xs ys
 into_both c xs ys long same =
@@ -158,7 +158,7 @@ unfolding remainder
 remainder_behind zero bits = refl
 remainder_behind (suc n) bits = remainder_behind n bits
 
--- ---- octets that hold their check
+-- ---- octets that end with their check
 
 number_of_bits-append : (xs ys : List Bool)
     → number_of_bits (xs ++ ys) ≡ number_of_bits xs * 2 ^ length ys + number_of_bits ys
@@ -171,7 +171,7 @@ number_of_bits-append (true ∷ xs) ys =
     ap (λ (k : ℕ). 2 ^ k) (length-append xs ys) ∙ pow-add 2 (length xs) (length ys) in
     omega (arith, power, rest, add-mul (2 ^ length xs) (number_of_bits xs) (2 ^ length ys))
 
--- bits are known from their number and their count
+-- bits are determined by their number and their count
 bits_are : (xs ys : List Bool) → length xs ≡ length ys → number_of_bits xs ≡ number_of_bits ys → xs ≡ ys
 bits_are [] [] e h = refl
 bits_are [] (y ∷ ys) e h = absurd (omega arith)
@@ -206,7 +206,8 @@ octet_bits-two (x ∷ y ∷ []) e fits =
     )
 octet_bits-two (x ∷ y ∷ z ∷ rest) e fits = absurd (omega arith)
 
--- The inverted bits of octets that hold their check have the remainder 0 (the decoding procedure).
+-- The inverted bits of octets that end with their check have the remainder 0 (the decoding
+-- procedure).
 no_remainder : (front tail : List ℕ) → length tail ≡ 2 → IsOctets tail → number_of tail ≡ check_of front
     → IsZero (remainder (8 * length front) (sum_without_carries (replicate 16 true) (octet_bits (front ++ tail))))
 unfolding check_of
@@ -267,7 +268,7 @@ octet_bits-are (x ∷ xs) (y ∷ ys) e p q h =
     let rest : xs ≡ ys = octet_bits-are xs ys (omega arith) (λ i. p (suc i)) (λ i. q (suc i)) (ap (drop 8) bits) in
     cc
 
--- octets that hold their check are not others that hold it by a burst
+-- octets that end with their check do not differ by a burst from others that do
 pub burst_seen : (xs ys : List ℕ) → IsOctets xs → IsOctets ys → DiffersInBurst xs ys → HoldsCheck xs → HoldsCheck ys
     → xs ≡ ys
 burst_seen xs ys p q d h k =

@@ -14,7 +14,7 @@ use Rattle.std.proofs.Math.Nat.{pow-suc}
 use Rattle.octets.specs.Check.{bits_of, sum_without_carries, number_of_bits, octet_bits}
 use Rattle.octets.specs.Check.{generator_rest, remainder, check_of, HoldsCheck}
 
--- octets of a front are octets
+-- the octets of a front are octets
 pub take_fits : (octets : List ℕ) (n : ℕ) → IsOctets octets → IsOctets (take n octets)
 take_fits octets n fits i =
     elim (cases_lt i n) [
@@ -22,7 +22,7 @@ take_fits octets n fits i =
       | inr le ↦ rw (get_or_past (take n octets) i 0 (omega (arith, length-take n octets))) (omega arith)
     ]
 
--- octets from a place on are octets
+-- the octets from a place on are octets
 pub drop_fits : (octets : List ℕ) (k : ℕ) → IsOctets octets → IsOctets (drop k octets)
 drop_fits octets k fits i = rw get_or-drop (fits (k + i))
 
@@ -47,11 +47,11 @@ put_head (x ∷ xs) v ys h =
 
 -- Numbers that octets spell, and the octets of a number.
 
--- a number in two octets, read again from the front
+-- a number in two octets, read back from the front
 pub number_of_two : (n : ℕ) (rest : List ℕ) → n < 65536 → number_of (take 2 (big_bytes 2 n ++ rest)) ≡ n
 number_of_two n rest lt = omega arith
 
--- a number in two octets, read again
+-- a number in two octets, read back
 pub number_of_last : (n : ℕ) → n < 65536 → number_of (big_bytes 2 n) ≡ n
 number_of_last n lt = omega arith
 
@@ -61,7 +61,7 @@ two_below [] fits = omega arith
 two_below (x ∷ []) fits = omega (arith, fits 0)
 two_below (x ∷ y ∷ rest) fits = omega (arith, fits 0, fits 1)
 
--- two octets are those of their number
+-- two octets are the octets of their number
 pub two_octets : (octets : List ℕ) → length octets ≡ 2 → IsOctets octets → octets ≡ big_bytes 2 (number_of octets)
 two_octets [] e fits = absurd (omega arith)
 two_octets (x ∷ []) e fits = absurd (omega arith)
@@ -131,7 +131,7 @@ holds_check front =
           ∙ ap check_of (sym (take_at front tail (length (front ++ tail) - 2) len));
     }
 
--- octets that hold their check are those before it and what is set after them
+-- octets that end with their check are the octets before it, followed by the check that is set
 pub checked_are : (octets : List ℕ) → IsOctets octets → HoldsCheck octets
     → octets ≡ take (length octets - 2) octets ++ big_bytes 2 (check_of (take (length octets - 2) octets))
 checked_are octets fits h =

@@ -1,4 +1,4 @@
--- The register of 16 bits: one step a bit, and each step is linear.
+-- The 16-bit register: one step for each bit, and each step is linear.
 use Rattle.std.proofs.Common.{◌≡◌, ℕ, zero, suc, ◌+◌, ◌*◌, ◌/◌, ◌%◌, ◌^◌, ◌<◌, Bool, true, false}
 use Rattle.std.proofs.Common.{cond, eqb, refl, sym, ap, ◌∙◌, arith, ◌≤◌, List, [], ◌∷◌, ◌++◌}
 use Rattle.std.proofs.Common.{length, drop, append_assoc, length-append}
@@ -14,11 +14,11 @@ use Rattle.octets.proofs.Bits.{sum-assoc, sum-comm, sum-zeros, sum-longer, sum-a
 use Rattle.octets.proofs.Bits.{length-bits_of, bits_of-xor, bits_of-mod, bits_of-shifted}
 use Rattle.octets.proofs.Bits.{number_of_bits-bits_of}
 
--- the register after one bit more
+-- the register after one more bit
 abbrev pub register_step : ℕ → ℕ
 register_step r = cond (eqb (r / 2 ^ 15) 1) (bit_xor (r * 2 % 2 ^ 16) 0x1021) (r * 2 % 2 ^ 16)
 
--- the register after n bits more
+-- the register after n more bits
 abbrev pub register_after : ℕ → ℕ → ℕ
 register_after zero r = r
 register_after (suc n) r = register_after n (register_step r)
@@ -36,7 +36,7 @@ double-xor a b =
 shifted-xor : (a b : ℕ) → bit_xor (a * 2 % 2 ^ 16) (b * 2 % 2 ^ 16) ≡ bit_xor a b * 2 % 2 ^ 16
 shifted-xor a b = sym (xor_mod (a * 2) (b * 2) 16) ∙ ap (λ (x : ℕ). x % 2 ^ 16) (double-xor a b)
 
--- the generator where the bit is set
+-- the generator if the bit is set
 abbrev taken : ℕ → ℕ
 taken b = cond (eqb b 1) 0x1021 0
 
@@ -87,13 +87,13 @@ after-xor (suc n) a b p q =
     ap (register_after n) (step-xor a b p q)
     ∙ after-xor n (register_step a) (register_step b) (step-fits a) (step-fits b)
 
--- The register does what the division does.
+-- The register performs the division.
 
 -- the bits still to be divided: the zeros of an octet whose bits are in the register, the octets, and 16 zeros
 abbrev bits_left : ℕ → List ℕ → List Bool
 bits_left zeros octets = replicate zeros false ++ (octet_bits octets ++ replicate 16 false)
 
--- what the division gives from here on, with a register over the bits that are left
+-- the rest of the division, with the register over the bits that are left
 unfoldable pub divided : ℕ → ℕ → List ℕ → List Bool
 divided register zeros octets =
     remainder (zeros + 8 * length octets) (sum_without_carries (bits_of 16 register) (bits_left zeros octets))
@@ -129,7 +129,7 @@ takes_octet r x xs =
     ∙ ap (λ (n : ℕ). remainder n (sum_without_carries (bits_of 16 r) (octet_bits (x ∷ xs) ++ replicate 16 false)))
     count
 
--- one step of the division, where the next bit that comes in is 0
+-- one step of the division, if the next bit that comes in is 0
 one_step : (b : Bool) (low : List Bool) (n : ℕ) (rest : List Bool)
     → remainder (suc n) (sum_without_carries (b ∷ low) (false ∷ rest))
     ≡ remainder n (cond b (sum_without_carries generator_rest (sum_without_carries low rest))
@@ -139,7 +139,7 @@ one_step b low n rest =
     ap (λ (c : Bool). remainder n (cond c (sum_without_carries generator_rest (sum_without_carries low rest))
     (sum_without_carries low rest))) (bit_sum-false b)
 
--- the register that is moved on by a bit, as bits
+-- the register shifted by one bit, as bits
 moved_on : (r : ℕ) (rest : List Bool) → 16 ≤ length rest
     → sum_without_carries (bits_of 16 (r * 2 % 2 ^ 16)) rest ≡ sum_without_carries (bits_of 15 r) rest
 moved_on r rest h =
@@ -147,7 +147,7 @@ moved_on r rest h =
     bits_of-mod 16 16 (r * 2) (omega arith) ∙ bits_of-shifted 15 r 1 in
     ap (λ (b : List Bool). sum_without_carries b rest) bits ∙ sum-longer (bits_of 15 r) rest h
 
--- either way of the step of the register
+-- either case of the register's step
 stepped : (b : Bool) (r : ℕ) (rest : List Bool) → 16 ≤ length rest
     → sum_without_carries (bits_of 16 (cond b (bit_xor (r * 2 % 2 ^ 16) 0x1021) (r * 2 % 2 ^ 16))) rest
     ≡ cond b (sum_without_carries generator_rest (sum_without_carries (bits_of 15 r) rest))
@@ -160,7 +160,7 @@ stepped true r rest h =
     ∙ sum-assoc generator_rest (bits_of 16 m) rest
     ∙ ap (sum_without_carries generator_rest) (moved_on r rest h)
 
--- one bit more
+-- one more bit
 pub takes_bit : (r zeros : ℕ) (xs : List ℕ) → r < 2 ^ 16 → divided (register_step r) zeros xs ≡ divided r (suc zeros) xs
 unfolding divided
 takes_bit r zeros xs lt =
@@ -178,7 +178,7 @@ takes_bit r zeros xs lt =
     ∙ ap (remainder (suc n)) (sym whole)
     ∙ ap (λ (k : ℕ). remainder k (sum_without_carries (bits_of 16 r) (bits_left (suc zeros) xs))) (sym count)
 
--- nothing is left but the register
+-- only the register is left
 pub divided_all : (r : ℕ) → r < 2 ^ 16 → number_of_bits (divided r 0 []) ≡ r
 unfolding divided remainder
 divided_all r lt =
@@ -188,7 +188,7 @@ divided_all r lt =
     let whole : r % 2 ^ 16 ≡ r = omega arith in
     ap number_of_bits bits ∙ number_of_bits-bits_of 16 r ∙ whole
 
--- at first the register has ones
+-- at first the register is all ones
 pub divided_first : (octets : List ℕ) → number_of_bits (divided 0xffff 0 octets) ≡ check_of octets
 unfolding divided check_of
 divided_first octets =

@@ -1,4 +1,4 @@
--- Steps of a reading that did not fail, and tests that came out one way.
+-- Steps of a reading that succeeded, and tests that had one result.
 use Rattle.std.proofs.Common.{◌≡◌, ◌≤◌, ◌<◌, ℕ, Bool, true, false, not, cond, eqb, Result, Ok, Err}
 use Rattle.std.proofs.Common.{refl, arith, ◌⊎◌, zero, suc, ltb, List, [], ◌∷◌, ◌++◌, length, take}
 use Rattle.std.proofs.Common.{drop, Option, Some, None, sym, ap, subst, ◌∙◌, inl, inr, append_assoc}
@@ -17,17 +17,17 @@ use Rattle.octets.specs.Records.{first_records, rest_after_first, records_of, re
 abbrev pub done : {A F : Type 0} → A → Result A F
 done x = Ok x
 
--- two answers Ok that are one have one value
+-- two equal answers Ok have one value
 pub ok_is : {A F : Type 0} (x y : A) → done {F = F} x ≡ done y → x ≡ y
 ok_is x y e = cc
 
--- what comes after a fault that wasn't answered
+-- what follows if this fault is not the answer
 pub passed : {A F : Type 0} (b : Bool) (e : F) (r : Result A F) (y : A) → cond b (Err e) r ≡ Ok y
     → (b ≡ false) × (r ≡ Ok y)
 passed true e r y h = absurd cc
 passed false e r y h = (refl, h)
 
--- a last test that was met
+-- a last test that succeeded
 pub ended : {A F : Type 0} (b : Bool) (e : F) (x y : A) → cond b (Ok x) (Err e) ≡ Ok y → (b ≡ true) × (x ≡ y)
 ended true e x y h = (refl, cc)
 ended false e x y h = absurd cc
@@ -50,11 +50,11 @@ is_zero n h = equal_from n 0 h
 pub le_true : (m n : ℕ) → nat_le m n ≡ true → m ≤ n
 le_true m n h = grind (arith, nat_tests)
 
--- flags whose tests for 1 come out alike
+-- flags whose tests for 1 have the same result
 pub flag_from : (m : ℕ) → m < 2 → (n : ℕ) → n < 2 → eqb m 1 ≡ eqb n 1 → m ≡ n
 flag_from m p n q h = grind (arith, nat_tests)
 
--- A stream is its records and a rest in one way, and cutting it into pieces doesn't change them.
+-- A stream is its records and a rest in one way, and cutting it into pieces does not change them.
 
 all-append : {X : Type 0} (P : X → Type 0) (xs ys : List X) → AllByRecursion P xs → AllByRecursion P ys
     → AllByRecursion P (xs ++ ys)
@@ -83,7 +83,7 @@ module _ {F : Type 0} (head : ℕ) (extent : List ℕ → Result ℕ F) where
       let all : ltb (length (r ++ more)) (length r) ≡ false = le-ltb _ _ (omega (arith, length-append r more)) in
       rw (t, front, all, take_at r more (length r) refl) refl
 
-  -- what is first is a record, and stands in front
+  -- what is first is a record, and is in front
   record_is_at : (octets r : List ℕ) (n : ℕ) → extent (take head octets) ≡ Ok n → head ≤ n → (b : Bool)
       → ltb (length octets) n ≡ b → cond b None (handed (take n octets)) ≡ handed r
       → IsRecord head extent r × (octets ≡ r ++ drop (length r) octets)
@@ -126,7 +126,7 @@ module _ {F : Type 0} (head : ℕ) (extent : List ℕ → Result ℕ F) where
   left_at octets true lt h = inl (ltb-true _ _ lt)
   left_at octets false ge h = inr (left_of octets (extent (take head octets)) h)
 
-  -- where there is no first record, all is left
+  -- if there is no first record, all octets are left
   pub is_left : (octets : List ℕ) → IsNoRecord (first_record head extent octets) → IsLeft octets
   is_left octets h = left_at octets (ltb (length octets) head) refl h
 
@@ -145,7 +145,7 @@ module _ {F : Type 0} (head : ℕ) (extent : List ℕ → Result ℕ F) where
       let first : first_record head extent rest ≡ handed r = ap (first_record head extent) e ∙ is_first r more p in
       subst IsNoRecord first (is_no_record rest h)
 
-  -- two records that begin one list are one
+  -- two records that begin one list are equal
   same_first : (r s x y : List ℕ) → IsRecord head extent r → IsRecord head extent s → r ++ x ≡ s ++ y
       → (r ≡ s) × (x ≡ y)
   same_first r s x y p q e =
@@ -224,7 +224,7 @@ module _ {F : Type 0} (head : ℕ) (extent : List ℕ → Result ℕ F) (some_he
   split_within zero stream le = nothing_first stream (inl (omega arith))
   split_within (suc n) stream le = split_by n stream (first_record head extent stream) refl le (split_within n)
 
-  -- each stream is split so
+  -- each stream has this split
   pub split_of : (stream : List ℕ)
       → IsSplit head extent stream (records_of head extent stream) (rest_of head extent stream)
   unfolding records_of rest_of
@@ -247,7 +247,7 @@ module _ {F : Type 0} (head : ℕ) (extent : List ℕ → Result ℕ F) (some_he
       in
       (sym is.0, sym is.1)
 
-  -- a stream without one
+  -- a stream without a first record
   pub records_of-none : (stream : List ℕ) → IsNoRecord head extent (first_record head extent stream)
       → (records_of head extent stream ≡ []) × (rest_of head extent stream ≡ stream)
   records_of-none stream h =
@@ -272,7 +272,7 @@ module _ {F : Type 0} (head : ℕ) (extent : List ℕ → Result ℕ F) (some_he
         left = q.left;
       }
 
-  -- the records of two pieces are those of the first, and then those of its rest followed by the second
+  -- the records of two pieces are those of the first piece, and then those of its rest followed by the second
   pub records_of-append : (xs ys : List ℕ)
       → records_of head extent (xs ++ ys) ≡ records_of head extent xs
       ++ records_of head extent (rest_of head extent xs ++ ys)

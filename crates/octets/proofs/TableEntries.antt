@@ -1,4 +1,4 @@
--- The rule of the check's tables at each entry, from one test over all of them, and the register after octets.
+-- The rule of the check's tables at each entry, from one test over all entries, and the register after octets.
 use Rattle.std.proofs.Common.{◌≡◌, ℕ, zero, suc, ◌+◌, ◌*◌, ◌/◌, ◌%◌, ◌^◌, ◌<◌, ◌≤◌, Bool, true, eqb, List, [], ◌∷◌}
 use Rattle.std.proofs.Common.{◌++◌, length, get_or, take, drop, refl, sym, ap, subst, ◌∙◌, arith, inl, inr}
 use Rattle.std.specs.Prelude.{◌&&◌, bit_xor}
@@ -15,7 +15,7 @@ use Rattle.octets.specs.Check.{entries, entries_after}
 
 -- ---- each entry
 
--- the first n entries from place i on are what the register becomes with nothing but its place in it
+-- the first n entries from place i on are what the register becomes if it contains only the entry's place
 abbrev entries_hold : ℕ → ℕ → List ℕ → Bool
 entries_hold zero i xs = true
 entries_hold (suc n) i [] = true
@@ -34,7 +34,7 @@ entry_is (suc n) i (x ∷ xs) (suc k) e lt in_list =
     entry_is n (i + 1) xs k (and_parts _ _ e).1 (omega arith) (omega arith)
     ∙ ap (λ (n : ℕ). register_after 8 (n * 256)) place
 
--- each entry of the second list is what that of the first becomes an octet later
+-- each entry of the second list is what the entry of the first becomes one octet later
 abbrev follows : List ℕ → List ℕ → Bool
 follows xs [] = true
 follows [] (y ∷ ys) = true
@@ -104,7 +104,7 @@ takes_bits : (n r : ℕ) (xs : List ℕ) → r < 2 ^ 16 → divided (register_af
 takes_bits zero r xs lt = refl
 takes_bits (suc n) r xs lt = takes_bits n (register_step r) xs (step-fits r) ∙ takes_bit r n xs lt
 
--- the register and an octet are the table's place and what is below it
+-- the register and an octet are the table's place and the bits below it
 parts : (r x : ℕ) → bit_xor r (x * 2 ^ 8) ≡ bit_xor (bit_xor (r / 2 ^ 8) x * 2 ^ 8) (r % 2 ^ 8)
 parts r x =
     let whole : r / 2 ^ 8 * 2 ^ 8 + r % 2 ^ 8 ≡ r = shr_split r 8 in
@@ -129,7 +129,7 @@ steps_fit : (n r : ℕ) → r < 2 ^ 16 → register_after n r < 2 ^ 16
 steps_fit zero r fits = fits
 steps_fit (suc n) r fits = steps_fit n (register_step r) (step-fits r)
 
--- eight steps more
+-- eight more steps
 takes_whole_octet : (r x : ℕ) (xs : List ℕ) → r < 2 ^ 16 → x < 256
     → divided (register_after 8 (bit_xor r (x * 2 ^ 8))) 0 xs ≡ divided r 0 (x ∷ xs)
 takes_whole_octet r x xs fits small =
@@ -166,7 +166,7 @@ takes_octets r (x ∷ xs) rest fits small =
     takes_octets (register_after 8 (bit_xor r (x * 2 ^ 8))) xs rest (octet_fits r x fits (small 0))
     (after_first x xs small) ∙ takes_whole_octet r x (xs ++ rest) fits (small 0)
 
--- what stands in the register and what octets add come together at the end
+-- what the register contains and what octets add are summed at the end
 apart : (a b : ℕ) (xs : List ℕ) → a < 2 ^ 16 → b < 2 ^ 16 → IsOctets xs
     → after_octets (bit_xor a b) xs ≡ bit_xor (later (length xs) a) (after_octets b xs)
 apart a b [] a-fits b-fits small = refl
@@ -277,7 +277,7 @@ takes_octet_at r s i octets fits lt small is =
     ∙ takes_octets r (x ∷ []) (drop (i + 1) octets) fits (one_octet x small)
     ∙ sym (ap (divided r 0) (drop_more octets i 0 lt))
 
--- a turn of a loop over octets
+-- one iteration of a loop over octets
 pub takes_some : (n r s : ℕ) (octets some rest : List ℕ) → n < 14 → n + 3 ≤ length octets → r < 2 ^ 16
     → some ≡ take (n + 3) octets → rest ≡ drop (n + 3) octets → IsOctets some
     → s ≡ entries_after n r (λ k. get_or some k 0)

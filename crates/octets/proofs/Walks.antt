@@ -1,5 +1,5 @@
--- Functions that make a struct of ghost fields alone, and do nothing else. A proof tells what the struct is, and each
--- function meets the clauses that hold of that. Assumes `Logic`.
+-- Functions that make a struct of ghost fields only, and do nothing else. A proof states what the struct is,
+-- and each function meets the clauses that hold of this struct. Assumes `Logic`.
 use Rattle.std.proofs.Common.{List, [], ◌∷◌, refl}
 use Rattle.std.proofs.raw_atomic.Walks.{proved, leaves}
 use Prim.Native.Nat.{ℕ}
@@ -50,7 +50,7 @@ making n os ν k params = record {
 abbrev reference : ℕ → Ty → Local
 reference j τ = local (ty_ref (named j) imm τ) value_local
 
--- what is said of a function with no parameters, and of one with two references
+-- what is stated of a function with no parameters, and of one with two references
 abbrev of_none : Slot 0 → Ended
 of_none r = record {
   signature = record { lifetimes = 0; outlives = []; params = []; result = r };
@@ -71,14 +71,14 @@ of_two os s t r = record {
 module _ {M : Type 1} {𝓤 : Ura M} (𝓛 : Logic 𝓤) where
   open 𝓛 use {H}
 
-  -- what such a struct owns is had for nothing
+  -- what such a struct owns needs nothing
   pub owned : ent 𝓤 (emp 𝓤) (sem 𝓛 (fsep (fieldless.own_val tt (none ∷ [])) ftrue))
   owned =
       qed 𝓛 [] ∵ nothing ! $ nothing ! $ feq_i ! (List Val) (none ∷ []) (none ∷ []) refl $ fjoin ! $
       fpack ! (Valss []) (within (record { name = []; args = []; types = []; fields = [] }) tt (none ∷ [])) tt $
       fjoin ! $ done !
 
-  -- from what is had at the call: what the call leaves, where the struct is what is told
+  -- from what holds at the call: what the call leaves, if the struct is as stated
   module _ (T : Ended) (hs : Stays T.signature.params T.kept) (c : Clauses 𝓤 T) (y : (walk_of 𝓛 T hs c).Ghost) where
     abbrev has : (ws : Lasts T y.0.0 y.0.3) → Fml
     has ws = has_of y.0.0 T.signature.params T.kept hs y.0.3 ws y.0.4

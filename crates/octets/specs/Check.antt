@@ -36,22 +36,22 @@ sum_without_carries (x ∷ xs) (y ∷ ys) = bit_sum x y ∷ sum_without_carries 
 abbrev pub generator_rest : List Bool
 generator_rest = bits_of 16 0x1021
 
--- Long division by the generator, with as many steps as the quotient has bits. Where the first bit
--- is 1 the generator is taken away there; then that bit, which is 0 now, is left out.
+-- Long division by the generator, with as many steps as the quotient has bits. If the first bit is
+-- 1, the generator is subtracted there, modulo 2. Then the first bit, which is now 0, is left out.
 unfoldable pub remainder : ℕ → List Bool → List Bool
 remainder zero bits = bits
 remainder (suc n) [] = []
 remainder (suc n) (b ∷ bits) =
     remainder n (if b then sum_without_carries generator_rest bits else bits)
 
--- the check of octets: their bits and 16 zero bits, the first 16 of all these inverted, divided by
--- the generator
+-- The check of octets. Their bits are followed by 16 zero bits, and the first 16 of all these bits
+-- are inverted. The result is divided by the generator.
 unfoldable pub check_of : List ℕ → ℕ
 check_of octets =
     number_of_bits (remainder (8 * length octets)
     (sum_without_carries (replicate 16 true) (octet_bits octets ++ replicate 16 false)))
 
--- there are at least two octets, and the last two spell the check of those before them
+-- there are at least two octets, and the last two spell the check of the octets before them
 pub record HoldsCheck (octets : List ℕ) : Type 0 where
   pub long : 2 ≤ length octets
   pub same : number_of (drop (length octets - 2) octets)
@@ -68,14 +68,14 @@ abbrev pub entries : (n i : ℕ) → (ℕ → ℕ) → ℕ
 entries zero i x = entry_at 0 (x i)
 entries (suc n) i x = bit_xor (entries n (i + 1) x) (entry_at (suc n) (x i))
 
--- the register after octets, n + 1 of them after the first two, which it stands over
+-- the register after n + 3 octets; it is added, without carries, to the first two
 abbrev pub entries_after : (n register : ℕ) → (ℕ → ℕ) → ℕ
 entries_after n register x =
     bit_xor (bit_xor (entries n 2 x)
     (entry_at (n + 1) (bit_xor (register % 256) (x 1))))
     (entry_at (n + 2) (bit_xor (register / 256) (x 0)))
 
--- Damage to octets on their way.
+-- Damage to octets in transit.
 
 -- the lists differ at most within the two octets from this place on
 pub record DiffersInTwoOctets (xs ys : List ℕ) : Type 0 where

@@ -1,12 +1,11 @@
--- A stream of octets as the records of a layout and a rest. A layout is given by its head, the
--- octets that are needed to know a record's length, and by the length, or the fault, that such a
--- head gives.
+-- A stream of octets as the records of a layout and a rest. A layout has a head, the octets that
+-- are needed to know a record's length. It defines the length, or the fault, for each head.
 use Rattle.std.specs.Prelude.{◌≡◌, ◌≤◌, ◌<◌, ◌⊎◌, ℕ, zero, suc, List, [], ◌∷◌, ◌++◌, length, take}
 use Rattle.std.specs.Prelude.{drop, Option, Some, None, Result, Ok, Err, nat_lt, if◌then◌else◌}
 use Rattle.std.specs.List.{AllByRecursion, concat}
 
 module _ {F : Type 0} (head : ℕ) (extent : List ℕ → Result ℕ F) where
-  -- a record has its head, which gives its length
+  -- a record contains its head, which declares its length
   pub record IsRecord (octets : List ℕ) : Type 0 where
     pub has_head : head ≤ length octets
     pub extent_is : extent (take head octets) ≡ Ok (length octets)
@@ -22,7 +21,7 @@ module _ {F : Type 0} (head : ℕ) (extent : List ℕ → Result ℕ F) where
     pub each : AllByRecursion IsRecord records
     pub left : (length rest < head) ⊎ IsCutShort rest (extent (take head rest))
 
-  -- the octets of this extent, where they are all there
+  -- the octets of this extent, if they are all there
   abbrev pub record_of : List ℕ → Result ℕ F → Option (Result (List ℕ) F)
   record_of octets (Ok n) = if nat_lt (length octets) n then None else Some (Ok (take n octets))
   record_of octets (Err e) = Some (Err e)
@@ -32,7 +31,7 @@ module _ {F : Type 0} (head : ℕ) (extent : List ℕ → Result ℕ F) where
   first_record stream =
       if nat_lt (length stream) head then None else record_of stream (extent (take head stream))
 
-  -- one way where there is a record, and another where there is none
+  -- one result if there is a record, and another if there is none
   abbrev pub by_record : {A : Type 0} → Option (Result (List ℕ) F) → A → (List ℕ → A) → A
   by_record None none some = none
   by_record (Some (Err e)) none some = none
@@ -51,7 +50,7 @@ module _ {F : Type 0} (head : ℕ) (extent : List ℕ → Result ℕ F) where
       by_record (first_record stream) stream
       (λ octets. rest_after_first n (drop (length octets) stream))
 
-  -- a stream has no more records than octets
+  -- there are no more records than octets
   unfoldable pub records_of : List ℕ → List (List ℕ)
   records_of stream = first_records (length stream) stream
 

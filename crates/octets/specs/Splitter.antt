@@ -1,4 +1,4 @@
--- What a splitter holds, and what it answers.
+-- What a splitter contains, and what it returns.
 use Rattle.std.specs.Prelude.{◌≡◌, ◌≤◌, ◌<◌, ◌-◌, ◌++◌, ◌↔◌, ℕ, List, [], length, take, drop}
 use Rattle.std.specs.Prelude.{Option, Some, None, IsNone, Result, Ok, Err, IsOk, IsErr, IfErr, OnOk}
 use Rattle.std.specs.Prelude.{OnErr}
@@ -6,7 +6,8 @@ use Rattle.std.specs.Borrow.{Bor}
 use Rattle.octets.specs.declared.splitter.Splitter.{Splitter}
 use Rattle.octets.specs.declared.wire.Wire as wire
 
--- the octets that were fed and not handed out, and the fault of a refused extent, once one was met
+-- the octets that were fed and not yet returned, and the fault of a refused extent, once one was
+-- met
 pub record Held (F : Type 0) : Type 0 where
   pub octets : List ℕ
   pub failure : Option F
@@ -18,8 +19,8 @@ held s = record { octets = drop s.start s.octets.items; failure = s.failed }
 abbrev pub nothing_held : {F : Type 0} → Held F
 nothing_held = record { octets = []; failure = None }
 
--- what a call answers and leaves that takes more octets; at a fault, which is want of memory, all
--- is as it was
+-- the answer and the effect of a call that takes more octets; the only fault is out of memory, and
+-- it changes nothing
 pub record IsFed {T F : Type 0} (octets : List ℕ) (memory : F) (old new : Held F)
     (answer : Result T F) : Type 0 where
   pub ok : OnOk answer (new.octets ≡ old.octets ++ octets)
@@ -28,20 +29,20 @@ pub record IsFed {T F : Type 0} (octets : List ℕ) (memory : F) (old new : Held
   pub failure : new.failure ≡ old.failure
   pub none : octets ≡ [] → IsOk answer
 
--- what a call answers that asks whether the stream may end: the fault says that octets are left,
--- and no extent of theirs was refused
+-- the answer of a call that checks whether the stream may end: the fault means that octets are
+-- left, and that none of their extents was refused
 pub record IsFinished {T F : Type 0} (cut_short : F) (h : Held F) (answer : Result T F)
     : Type 0 where
   pub truncated : IsErr answer ↔ ((0 < length h.octets) × IsNone h.failure)
   pub fault : IfErr answer (λ e. e ≡ cut_short)
 
--- what is held after an answer
+-- the octets that are held after an answer
 abbrev pub rest_after : {F : Type 0} → Option (Result (List ℕ) F) → List ℕ → List ℕ
 rest_after None octets = octets
 rest_after (Some (Err e)) octets = octets
 rest_after (Some (Ok r)) octets = drop (length r) octets
 
--- how it has failed after an answer
+-- the fault after an answer
 abbrev pub failure_after : {F : Type 0} → Option (Result (List ℕ) F) → Option F → Option F
 failure_after None f = f
 failure_after (Some (Err e)) f = Some e
@@ -53,21 +54,21 @@ held_after answer h = record {
   failure = failure_after answer h.failure;
 }
 
--- an answer without where its octets lie in memory
+-- an answer without the place of its octets in memory
 abbrev pub answer_view : {F : Type 0} → Option (Result (Bor (List ℕ)) F)
     → Option (Result (List ℕ) F)
 answer_view None = None
 answer_view (Some (Err e)) = Some (Err e)
 answer_view (Some (Ok r)) = Some (Ok r.now)
 
--- the same, where the fault is lent too
+-- the same, if the fault is lent too
 abbrev pub lent_view : {F : Type 0} → Option (Result (Bor (List ℕ)) (Bor F))
     → Option (Result (List ℕ) F)
 lent_view None = None
 lent_view (Some (Err e)) = Some (Err e.now)
 lent_view (Some (Ok r)) = Some (Ok r.now)
 
--- the same, where the octets are those between two places
+-- the same, if the octets are those between two places
 abbrev pub place_view : {F : Type 0} → List ℕ → Option (Result (ℕ × ℕ) F)
     → Option (Result (List ℕ) F)
 place_view octets None = None

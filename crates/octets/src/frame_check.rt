@@ -1,4 +1,4 @@
-// The check of a frame: its value, its setting and its test.
+// The check of a frame: how it is computed, set and tested.
 
 ghost use Rattle.std.specs.Prelude.{◌≡◌, ◌≤◌, ◌<◌, ◌+◌, ◌-◌, ◌*◌, ◌^◌, ◌/◌, ◌%◌, ◌++◌, ◌↔◌, IsTrue, length, take, bit_xor, slice_index};
 ghost use Rattle.byteorder.specs.Endian.{big_bytes};
@@ -10,8 +10,8 @@ use crate::number::first_two;
 use crate::table::entry;
 use byteorder::{BigEndian, ByteOrder};
 
-/// The check of the octets: generator `x^16 + x^12 + x^5 + 1`, register preset to ones, no final
-/// inversion (CCSDS 232.0-B-4, 4.1.4.2; CCSDS 132.0-B-3, 4.1.6.2).
+/// Returns the check of the octets: generator `x^16 + x^12 + x^5 + 1`, register preset to ones, no
+/// final inversion (CCSDS 232.0-B-4, 4.1.4.2; CCSDS 132.0-B-3, 4.1.6.2).
 /// Cost: n.
 #[inline(never)]
 pub fn check(octets: &[u8]) -> u16
@@ -43,7 +43,7 @@ fn after_one(register: u16, octet: u8) -> u16
     ((register & 0xff) << 8) ^ entry(0, (register >> 8) as u8 ^ octet)
 }
 
-// The sum with what four octets add, of which the last is followed by `later` more octets.
+// The sum with what four octets add; the last of the four is followed by `later` more octets.
 #[inline(always)]
 fn with_four(sum: u16, later: usize, octets: [u8; 4]) -> u16
     requires { later ≤ 12 }
@@ -55,8 +55,8 @@ fn with_four(sum: u16, later: usize, octets: [u8; 4]) -> u16
     sum ^ entry(later, d) ^ entry(later + 1, c) ^ entry(later + 2, b) ^ entry(later + 3, a)
 }
 
-// The register after sixteen octets. What each adds is looked up as it stands after the last, so
-// that no look waits for another, and what needs the register comes last.
+// The register after sixteen octets. What each octet adds is looked up as it is after the last
+// octet, so that no lookup waits for another. The lookups that need the register come last.
 #[inline(always)]
 fn after_sixteen(register: u16, octets: &[u8; 16]) -> u16
     ensures after { result ≡ entries_after 13 register (slice_index octets.now) }
@@ -82,7 +82,7 @@ fn after_eight(register: u16, octets: &[u8; 8]) -> u16
     with_four(sum, 4, first)
 }
 
-/// Sets the last two octets to the check of those before them (CCSDS 232.0-B-4, 4.1.4.2).
+/// Sets the last two octets to the check of the octets before them (CCSDS 232.0-B-4, 4.1.4.2).
 /// Cost: n.
 pub fn append_check(octets: &mut [u8])
     requires { 2 ≤ length octets.old }
@@ -94,8 +94,8 @@ pub fn append_check(octets: &mut [u8])
     BigEndian::write_u16(&mut octets[len..], value);
 }
 
-/// Whether the last two octets are the check of those before them; false for fewer than two octets
-/// (CCSDS 232.0-B-4, 4.1.4.3).
+/// Returns whether the last two octets are the check of the octets before them; false for fewer
+/// than two octets (CCSDS 232.0-B-4, 4.1.4.3).
 /// Cost: n.
 pub fn check_holds(octets: &[u8]) -> bool
     ensures { IsTrue result ↔ HoldsCheck octets.now }

@@ -2,7 +2,7 @@
 
 ghost use Rattle.std.specs.Prelude.{◌≡◌, ◌≤◌, drop, vec_len};
 
-/// Takes this many octets away from the front. The others keep their order.
+/// Removes this many octets from the front. The other octets keep their order.
 /// Cost: n.
 pub fn remove_front(octets: &mut Vec<u8>, count: usize)
     requires { count ≤ vec_len octets.old }

@@ -1,4 +1,5 @@
-// What follows from the definition of the check, and from the laws of every layout. These functions do nothing.
+// What follows from the definition of the check, and from the laws of every layout. These functions do
+// nothing.
 
 ghost use Rattle.std.specs.Prelude.{◌≡◌, ◌++◌, ℕ, List, [], Some, Ok, Err};
 ghost use Rattle.std.specs.List.{AllByRecursion, concat};
@@ -9,8 +10,8 @@ ghost use Rattle.octets.specs.Records.{IsSplit, first_record, records_of, rest_o
 
 use crate::wire::Wire;
 
-/// Detects every burst error of at most 16 bits: of two lists of octets that differ only within 16
-/// neighbouring bits, or within two neighbouring octets, at most one ends with its FECF.
+/// Detects every burst error of at most 16 bits. If two lists of octets differ only within 16 neighbouring
+/// bits, or within two neighbouring octets, at most one of them ends with its FECF.
 pub fn law_of_damage()
     ensures octets { (xs ys : List ℕ) → IsOctets xs → IsOctets ys → DiffersInTwoOctets xs ys
         → HoldsCheck xs → HoldsCheck ys → xs ≡ ys }
@@ -30,8 +31,8 @@ pub fn law_of_records<W: Wire>()
         × (rest ≡ rest_of W.HEAD W.extent_of stream) }
 {}
 
-/// Any cutting of a stream gives the same: the records of two pieces are those of the first, and
-/// then those of its rest followed by the second.
+/// Any cutting of a stream yields the same records: the records of two pieces are those of the first piece,
+/// and then those of its rest followed by the second piece.
 pub fn law_of_cutting<W: Wire>()
     ensures records { (xs ys : List ℕ) → records_of W.HEAD W.extent_of (xs ++ ys)
         ≡ records_of W.HEAD W.extent_of xs
@@ -47,7 +48,7 @@ pub fn law_of_refusal<W: Wire>()
         → first_record W.HEAD W.extent_of (octets ++ more) ≡ Some (Err e) }
 {}
 
-/// Spellings on a stream are its records, and no spelling begins another.
+/// Spellings on a stream are its records, and no spelling is the beginning of another.
 pub fn law_of_spellings<W: Wire>()
     ensures records { (spellings : List (List ℕ)) (more : List ℕ)
         → AllByRecursion (λ octets. (v : W.Value) × W.IsSpelling v octets) spellings

@@ -1,5 +1,5 @@
 //! What all layouts share: the numbers that octets spell, the check of frames, and the records of a
-//! stream of octets, however it was cut.
+//! stream of octets, however the stream was cut.
 #![tactic(auto)]
 
 mod frame_check;

@@ -5,8 +5,8 @@ ghost use Rattle.octets.specs.Number.{number_of};
 
 use byteorder::{BigEndian, ByteOrder};
 
-/// The number that the first two octets spell, the first the more significant (bit numbering of the
-/// CCSDS books: bit 0 is the most significant and is sent first).
+/// Returns the number that the first two octets spell, the first the more significant (the bit
+/// numbering of the CCSDS books: bit 0 is the most significant and is sent first).
 pub fn first_two(octets: &[u8]) -> u16
     requires { 2 ≤ length octets.now }
     ensures { result ≡ number_of (take 2 octets.now) }
@@ -14,8 +14,8 @@ pub fn first_two(octets: &[u8]) -> u16
     BigEndian::read_u16(octets)
 }
 
-/// The lowest eleven bits: an APID (CCSDS 133.0-B-2, 4.1.3.3.4), or a first header pointer (CCSDS
-/// 132.0-B-3, 4.1.2.7.6).
+/// Returns the lowest eleven bits: an APID (CCSDS 133.0-B-2, 4.1.3.3.4), or a first header pointer
+/// (CCSDS 132.0-B-3, 4.1.2.7.6).
 pub fn low_eleven(number: u16) -> u16
     ensures { result ≡ number % 2048 }
 {

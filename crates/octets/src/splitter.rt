@@ -1,4 +1,4 @@
-// The records of a stream that comes in pieces.
+// The records of a stream that arrives in pieces.
 
 ghost use Rattle.std.specs.Prelude.{◌≡◌, ◌≤◌, ◌-◌, length, take, drop, vec_len, Some, IsSome};
 ghost use Rattle.std.specs.Borrow.{sem};
@@ -8,11 +8,11 @@ use crate::wire::Wire;
 use std::alloc::Global;
 use std::marker::PhantomData;
 
-/// The records of a stream of octets that comes in pieces, however it was cut.
+/// Splits a stream of octets that arrives in pieces into records, however the stream was cut.
 #[derive(Drop)]
 pub struct Splitter<W: Wire> {
     octets: Vec<u8>,
-    // up to where the octets were handed out
+    // the octets before this place have been returned
     start: usize,
     failed: Option<W::Fault>,
     layout: PhantomData<W>,
@@ -25,7 +25,7 @@ impl<W: Wire> Splitter<W> {
     ghost use Rattle.octets.specs.Records.{first_record};
     ghost use Rattle.octets.specs.contracts.splitter.Splitter.{the_row};
 
-    /// A splitter that holds nothing; it takes no memory until it is fed.
+    /// Returns an empty splitter. It takes no memory until it is fed.
     pub fn new(alloc: Global) -> Self
         ensures { held result ≡ nothing_held }
     {
@@ -37,7 +37,7 @@ impl<W: Wire> Splitter<W> {
         }
     }
 
-    /// Takes more octets of the stream. At a fault the splitter is as it was.
+    /// Takes more octets of the stream. On a fault the splitter is unchanged.
     /// Faults: the layout's `memory()`. Memory: yes, for one octet or more. Cost: n and the octets
     /// held.
     pub fn feed(&mut self, octets: &[u8]) -> Result<(), W::Fault>
@@ -53,9 +53,9 @@ impl<W: Wire> Splitter<W> {
         Ok(())
     }
 
-    /// The next whole record, or the fault of its extent; `None` while octets are missing. Either is
-    /// lent, and the splitter is free again once it was used. Where an extent is refused, this call and
-    /// every later one answer its fault.
+    /// Returns the next whole record, or the fault of its extent; `None` while octets are missing. The record
+    /// or fault is borrowed from the splitter, which is free again once the loan ends. If an extent is
+    /// refused, this call and every later one return its fault.
     /// Faults: the layout's, of a length.
     pub fn next(&mut self) -> Option<Result<&[u8], &W::Fault>>
         ensures* rests { sem 𝓛 (EndsAfter (the_row W.row W.Fault.row W.Wire) self.entry held
@@ -68,7 +68,7 @@ impl<W: Wire> Splitter<W> {
         }
     }
 
-    /// Whether the stream may end here. The fault says that octets are left, and no extent of theirs
+    /// Checks whether the stream may end here. The fault means that octets are left and none of their extents
     /// was refused.
     /// Faults: the layout's `truncated()`.
     pub fn finish(&self) -> Result<(), W::Fault>
@@ -80,7 +80,7 @@ impl<W: Wire> Splitter<W> {
         Ok(())
     }
 
-    // Passes the first record that is held, and says between which places it lies.
+    // Passes the first record that is held, and returns the places between which it lies.
     fn advance(&mut self) -> Option<Result<(usize, usize), W::Fault>>
         ensures octets { self.new.octets.items ≡ self.old.octets.items }
         ensures answer { place_view self.old.octets.items result

@@ -3,8 +3,8 @@
 ghost use Rattle.std.specs.Prelude.{◌≡◌, ◌<◌, ◌^◌};
 ghost use Rattle.octets.specs.Check.{entry_at};
 
-// The first table has what an octet adds to the register; each further one, what the entries of the
-// one before it become an octet later.
+// The first table contains what an octet adds to the register. Each further table contains what the
+// entries of the table before it become one octet later.
 static TABLES: [u16; 4096] = [
     0x0000, 0x1021, 0x2042, 0x3063, 0x4084, 0x50a5, 0x60c6, 0x70e7, 0x8108, 0x9129, 0xa14a, 0xb16b,
     0xc18c, 0xd1ad, 0xe1ce, 0xf1ef, 0x1231, 0x0210, 0x3273, 0x2252, 0x52b5, 0x4294, 0x72f7, 0x62d6,
@@ -350,7 +350,7 @@ static TABLES: [u16; 4096] = [
     0x7010, 0xd834, 0x3079, 0x985d,
 ];
 
-// What an octet adds to the register once `later` more octets were taken.
+// Returns what an octet adds to the register once `later` more octets were taken.
 #[inline(always)]
 pub fn entry(later: usize, octet: u8) -> u16
     requires { later < 16 }

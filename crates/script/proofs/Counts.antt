@@ -4,7 +4,7 @@ use Rattle.std.specs.Prelude.{decimal}
 use Rattle.std.proofs.lemmas.List.{append_assoc}
 use Rattle.script.specs.Player.{count_below_map, count_over_maps}
 
--- a count of those below MAP 64 is one of all
+-- a count on the MAPs below 64 is a count on all MAPs
 pub all_maps : (packets_on : ℕ → List (List ℕ)) (count map : ℕ) → count ≡ count_below_map packets_on map → map ≡ 64
     → count ≡ count_over_maps packets_on
 unfolding count_over_maps

@@ -1,4 +1,4 @@
--- What a node that is the simulated link answers to the lines of a script that is played is what the script answers.
+-- The simulated link, run as a node line by line, gives the answers of a script to its lines.
 use Rattle.std.proofs.Common.{◌≡◌, ◌∙◌, ◌+◌, ◌++◌, ◌∷◌, [], ℕ, List, Option, Some, None, true, false, map}
 use Rattle.std.proofs.Common.{refl, ap, sym}
 use Rattle.nodes.specs.declared.config.Config.{Config}
@@ -19,7 +19,7 @@ use Rattle.script.specs.Scripts.{first_refused, unreadable_line, config_in, with
 use Rattle.script.specs.Ending as endings
 use Rattle.script.specs.Ending.{Ending, script_ending, ending_by_faults, script_text, text_if_good, Explains}
 
--- what a node answers to lines from here on
+-- the answers of a node to lines from here on
 abbrev told : LinkNode → List (List ℕ) → Type 0
 told link lines =
     answers (node_playing link_rules) (Made link) lines ≡ answers_from link.world (map line_in lines)
@@ -49,7 +49,7 @@ made : (n : ℕ) (link : LinkNode) (lines : List (List ℕ)) → first_refused n
 made n link [] h = refl
 made n link (line ∷ more) h = made_line n link line more (line_in line) (λ next. made (n + 1) next more) h
 
--- no setting stands after an action
+-- no setting follows an action
 settled : (n : ℕ) (c : Config) (lines : List LineView) → first_refused n true lines ≡ None → with_lines c lines ≡ c
 settled n c [] h = refl
 settled n c (Skipped ∷ more) h = settled (n + 1) c more h
@@ -63,7 +63,7 @@ settled n c (Unreadable ∷ more) h = cc h
 
 -- ---- before the link is made
 
--- what a player that is configured so answers to lines
+-- the answers to lines of a player with this configuration
 abbrev asked : Config → List (List ℕ) → List LineView → Type 0
 asked c lines said =
     answers (node_playing link_rules) (Configured c) lines ≡ answers_from (new_world (with_lines c said)) said
@@ -115,7 +115,7 @@ configured n c [] h good = refl
 configured n c (line ∷ more) h good =
     asked_line n c line more (line_in line) (λ next. configured (n + 1) next more) h good
 
--- ---- a script that is played
+-- ---- a script that is run
 
 no_faults : (line : Option ℕ) (field : Option (List ℕ)) → ending_by_faults line field ≡ endings.Good
     → (line ≡ None) × (field ≡ None)

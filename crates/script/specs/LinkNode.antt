@@ -1,4 +1,4 @@
--- The simulated link as a node that is played line by line.
+-- The simulated link as a node that is run line by line.
 use Rattle.std.specs.Prelude.{codes, Option, Some, None}
 use Rattle.simulated_link.specs.World.{new_world, world_step}
 use Rattle.node_lines.specs.Lines.{AskView, Happening, Show}

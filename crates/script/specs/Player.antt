@@ -1,4 +1,4 @@
--- A script played: the responses to its lines, and the text that is written of them.
+-- A script that is run: the responses to its lines, and the text that is written for them.
 use Rattle.std.specs.Prelude.{ℕ, zero, suc, ◌+◌, if◌then◌else◌, List, [], ◌∷◌, ◌++◌, length, codes}
 use Rattle.std.specs.Prelude.{decimal, Option, Some, None, Result}
 use Rattle.std.specs.List.{flat_map}
@@ -11,7 +11,7 @@ use Rattle.simulated_link.specs.World.{World, world_step, accepted, submitted, d
 use Rattle.node_lines.specs.Lines.{LineView, Asking, Happening, Show}
 use Rattle.script.specs.Answers.{answer_text}
 
--- a response: to an event its answer, to a show the world as it is then
+-- a response: the answer to an event, or the world at a show
 pub data Response : Type 0 where
   ToEvent : Result ReplyView SimFault → Response
   ToShow : World → Response
@@ -40,16 +40,16 @@ abbrev pub clean_word : Option Opening → List ℕ
 clean_word None = codes "none"
 clean_word (Some opening) = if opening.clean then codes "yes" else codes "no"
 
--- how many there are on the MAPs below this one
+-- how many packets there are on the MAPs below this one
 abbrev pub count_below_map : (ℕ → List (List ℕ)) → ℕ → ℕ
 count_below_map packets_on zero = 0
 count_below_map packets_on (suc m) = count_below_map packets_on m + length (packets_on m)
 
--- how many there are on all 64 MAPs
+-- how many packets there are on all 64 MAPs
 unfoldable pub count_over_maps : (ℕ → List (List ℕ)) → ℕ
 count_over_maps packets_on = count_below_map packets_on 64
 
--- of the packets
+-- the start and the state of the session, and its packets
 abbrev pub packets_text : World → List ℕ
 packets_text w =
     codes "clean=" ++ (clean_word w.session.opening
@@ -57,12 +57,12 @@ packets_text w =
     ++ (codes " submitted=" ++ (decimal (count_over_maps (submitted w))
     ++ (codes " delivered=" ++ decimal (count_over_maps (delivered w))))))))
 
--- of the frames
+-- the frames
 abbrev pub frames_text : World → List ℕ
 frames_text w = codes " sent=" ++ (decimal (length w.session.sent)
     ++ (codes " accepted=" ++ decimal (length (accepted w))))
 
--- of what is acknowledged
+-- what is acknowledged
 abbrev pub acknowledged_text : World → List ℕ
 acknowledged_text w = codes " acknowledged=" ++ (decimal w.session.acknowledged
     ++ (codes " outstanding=" ++ decimal (length (outstanding w.ground_node))))
@@ -74,6 +74,6 @@ abbrev pub response_line : Response → List ℕ
 response_line (ToEvent answer) = answer_text answer ++ 10 ∷ []
 response_line (ToShow w) = show_text w ++ 10 ∷ []
 
--- the text that is written of a script that is played from this world on
+-- the text that is written for a script that is run from this world on
 abbrev pub answers_from : World → List LineView → List ℕ
 answers_from w script = flat_map response_line (script_responses w script)

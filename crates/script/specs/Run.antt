@@ -1,4 +1,4 @@
--- What is made of a script that comes in pieces: nothing before it has ended.
+-- How a script that arrives in pieces is taken: nothing is written before it has ended.
 use Rattle.std.specs.Prelude.{◌≡◌, ◌++◌, length, Option}
 use Rattle.streams.specs.Pieces.{Taking}
 use Rattle.script.specs.declared.check.ScriptFault.{ScriptFault}

@@ -1,4 +1,4 @@
-// Looks at a script before it is played.
+// Checks a script before it is run.
 
 ghost use Rattle.std.specs.Prelude.{◌≡◌, ◌<◌, ◌^◌, ◌-◌, ◌||◌, false, length};
 ghost use Rattle.node_lines.specs.Lines.{line_view, IsWellRead};
@@ -10,28 +10,29 @@ use nodes::Config;
 use streams::cut;
 use thiserror::Error;
 
-/// Why a script is not played.
+/// Why a script is not run.
 #[derive(Clone, Copy, Debug, Drop, Error, PartialEq, Eq)]
 pub enum ScriptFault {
-    /// This line is the first that is unreadable, counted from 1, for this cause.
+    /// This line, counted from 1, is the first unreadable one, for this cause.
     #[error("line {0}: unreadable")]
     Unreadable(u64, &'static str),
-    /// This field of the configuration is the first that is out of its range.
+    /// This field of the configuration is the first one out of range.
     #[error("config out of range: {0}")]
     OutOfRange(&'static str),
 }
 
-// What the lines of a script ask for, as far as they were looked at.
+// What the lines of a script require, as far as they are checked.
 #[derive(Drop)]
 struct Seen {
-    // The configuration, in which a field may be out of its range.
+    // The configuration, in which a field may be out of range.
     config: Config,
-    // Whether a line was met after which no setting may stand.
+    // Whether a line was met that no setting may follow.
     begun: bool,
 }
 
 impl Seen {
-    // Takes a line unless it is refused, and says whether it is: a setting after a line that is played is.
+    // Takes a line unless it is refused, and returns whether it is refused. A setting after an action is
+    // refused.
     fn refuses(&mut self, line: Line<'_>) -> bool
         requires { IsWellRead line }
         ensures refused { result ≡ is_refused self.old.begun (line_view line.entry) }
@@ -58,8 +59,8 @@ impl Seen {
     }
 }
 
-/// Why a script is not played, where it is not: the first line that is unreadable, or else the first field of
-/// its configuration that is out of its range.
+/// Returns why a script is not run, if it is not: the first unreadable line, or else the first field of its
+/// configuration that is out of range.
 /// Cost: n.
 pub fn fault_of(script: &[u8]) -> Option<ScriptFault>
     requires { length script.now < 2 ^ 64 - 1 }

@@ -1,5 +1,5 @@
-//! Scripts of the simulated link, as docs/PROFILE.md has them: `play_script` reads one to its end, looks at
-//! each line, and then plays it on the link, as a node is played line by line.
+//! Scripts of the simulated link, as docs/PROFILE.md defines them. `play_script` reads a script to its end,
+//! checks each line, and then runs the script on the link, as a node is run line by line.
 #![tactic(auto)]
 
 mod answer;

@@ -1,4 +1,4 @@
-// The simulated link as a node that is played line by line.
+// The simulated link as a node that is run line by line.
 
 ghost use Rattle.std.specs.Prelude.{◌≡◌, OnOk, IfOk};
 ghost use Rattle.octets.specs.Beginning.{Appends};
@@ -22,7 +22,7 @@ pub struct LinkNode {
 }
 
 impl LinkNode {
-    /// The link itself.
+    /// Returns the link itself.
     pub fn world(&self) -> &World
         ensures { result.now ≡ self.now.world }
     {
@@ -61,7 +61,7 @@ impl Node for LinkNode {
     }
 }
 
-// Lets an event happen. Its only fault is want of memory.
+// Lets an event happen. It fails only if memory runs out.
 fn step(world: &mut World, event: Event<'_>) -> Result<Result<Reply, SimFault>, AllocError>
     ensures answer { IfOk result (λ answer.
         map_ok reply_view answer ≡ (world_step world.old event.entry).answer) }

@@ -1,4 +1,4 @@
-// Runs a script that comes in pieces.
+// Runs a script that arrives in pieces.
 
 ghost use Rattle.std.specs.Prelude.{◌≡◌, ◌+◌, ◌⊎◌, OnOk, IfOk, IfErr, refl};
 ghost use Rattle.streams.specs.Devices.{HasEnded, gained, writes_failed_in, BeginsToWrite, Writes};
@@ -23,7 +23,7 @@ struct Script {
     octets: Vec<u8>,
 }
 
-// Plays a script, by a link that its lines make.
+// Runs a script on a link that its lines make.
 fn play<W: Sink>(alloc: Global, writer: &mut W, script: &[u8]) -> Result<(), StreamFault>
     ensures ok { Writes result (W.taken_octets writer.old) (W.taken_octets writer.new)
         (answers (node_playing link_rules) fresh_player (parts_of script.now)) }
@@ -37,7 +37,7 @@ fn play<W: Sink>(alloc: Global, writer: &mut W, script: &[u8]) -> Result<(), Str
 }
 
 impl<W: Sink> Taker<(), W> for Script {
-    // Why it is not played, where it is not.
+    // Why the script is not run, if it is not.
     type Answer = Option<ScriptFault>;
 
     ghost taking = { script_taking };
@@ -74,8 +74,8 @@ impl<W: Sink> Taker<(), W> for Script {
     ghost of_nothing = { λ s k text. refl };
 }
 
-/// Reads a script to its end, and then plays it, where all its lines are readable and its configuration is in
-/// range; else it answers why not. Before the whole script is read nothing is written.
+/// Reads a script to its end, and then runs it if all its lines are readable and its configuration is in
+/// range. Otherwise it returns why not. Nothing is written before the whole script is read.
 /// Faults: Read, Write, Memory, TooLong. Memory: the script. Cost: that of the events and answers.
 pub fn play_script<R: Source, W: Sink>(
     alloc: Global,

@@ -19,7 +19,7 @@ fn clean_word(opening: Option<Opening>) -> &'static str
     }
 }
 
-// How many packets were submitted, and how many are ready on board, over all MAPs.
+// Returns how many packets were submitted, and how many are ready on board, over all MAPs.
 fn count_packets(world: &World) -> (u128, u128)
     ensures submitted { result.0 ≡ count_over_maps (submitted world.now) }
     ensures delivered { result.1 ≡ count_over_maps (delivered world.now) }
@@ -53,7 +53,7 @@ fn push_count(text: &mut String, name: &str, count: usize) -> Result<(), AllocEr
     write!(text, "{name}{count}")
 }
 
-// What the records say of the packets.
+// Appends the records of the packets.
 fn push_packets(text: &mut String, world: &World) -> Result<(), AllocError>
     ensures { Appends result text.old text.new (packets_text world.now) }
 {
@@ -66,7 +66,7 @@ fn push_packets(text: &mut String, world: &World) -> Result<(), AllocError>
     )
 }
 
-// What the records say of the frames.
+// Appends the records of the frames.
 fn push_frames(text: &mut String, world: &World) -> Result<(), AllocError>
     ensures { Appends result text.old text.new (frames_text world.now) }
 {
@@ -75,7 +75,7 @@ fn push_frames(text: &mut String, world: &World) -> Result<(), AllocError>
     write!(text, " sent={sent} accepted={accepted}")
 }
 
-// What the records say of what is acknowledged.
+// Appends the records of what is acknowledged.
 fn push_acknowledged(text: &mut String, world: &World) -> Result<(), AllocError>
     ensures { Appends result text.old text.new (acknowledged_text world.now) }
 {

@@ -119,8 +119,8 @@ queue_described b new packet memory after is send same pending within =
 
 -- ---- octets that are sent
 
--- what is left of the packet that is begun then stands first in these octets, and packets of these sizes after it, and
--- these octets after them
+-- what is left of the packet that is begun then is at the beginning of these octets, followed by packets of these
+-- sizes, and then by the other octets
 record IsLeft (left : ℕ × List ℕ) (octets behind : List ℕ) : Type 0 where
   within : left.0 ≤ length octets
   rest : rest_in (drop left.0 octets) ≡ behind
@@ -147,7 +147,7 @@ first_by whole p ps (Some q) e is =
       rest = ap (λ (xs : List ℕ). rest_in (drop (length xs) whole)) (sym same) ∙ sym more.1;
     }
 
--- no packet stands after what was begun
+-- no packet follows what was begun
 left_none : (begun room : ℕ) (pending : List ℕ) → begun ≤ length pending → packets_in (drop begun pending) ≡ []
     → rest_in (drop begun pending) ≡ []
     → IsLeft (begun - room, []) (drop room pending) []
@@ -163,7 +163,7 @@ left_within : (begun room : ℕ) (pending behind : List ℕ) (sizes : List ℕ) 
 left_within begun room pending behind sizes le few is rest =
     grind (arith, drop-drop (begun - room) room pending, length-drop room pending, le, few, is, rest)
 
--- the packets have as many octets as are sent, or nothing stands after them
+-- the packets have as many octets as are sent, or nothing follows them
 abbrev Reach : List ℕ → List (List ℕ) → ℕ → ℕ → Type 0
 Reach behind packets begun room = (behind ≡ []) ⊎ (room ≤ begun + length (concat packets))
 
@@ -229,7 +229,7 @@ pub passed_all : (rest : List ℕ) (left room : ℕ) → room ≤ left
 passed_all rest left room le =
     ap (λ (r : ℕ × List ℕ). r.0) (passed_within room left (map length (packets_in rest)) le)
 
--- the octets that are left, where this many of the memory's were passed
+-- the octets that are left, if this many of the memory's were passed
 passed_octets : (count room from : ℕ) (memory : List ℕ)
     → take (count - min room count) (drop (from + min room count) memory) ≡ drop room (take count (drop from memory))
 passed_octets count room from memory =

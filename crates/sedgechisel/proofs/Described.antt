@@ -1,4 +1,4 @@
--- What was read is written again as its fields and by its data, where they stand.
+-- What was read is written again from its fields and from its data in their place.
 use Rattle.std.proofs.Common.{◌≡◌, ℕ, zero, suc, ◌-◌, Bool, List, [], ◌∷◌, ◌++◌, length, take, drop, Result, Ok, Err}
 use Rattle.std.proofs.Common.{refl, sym, ap, ◌∙◌, arith}
 use Rattle.std.proofs.lemmas.List.{take-append-drop, append-nil, append_assoc, drop-drop}
@@ -32,12 +32,12 @@ use Rattle.sedgechisel.specs.CommandFrames as commands
 use Rattle.sedgechisel.specs.CommandFrames.{fields_with, part_with}
 use Rattle.sedgechisel.specs.TelemetryFrames as telemetry
 
--- a crate's answer Ok
+-- the answer of a crate is Ok
 read_ok : {A F : Type 0} (row : F → ℕ × List ℕ) (r : Result A F) (x : A) → numbered row r ≡ Ok x → r ≡ Ok x
 read_ok row (Ok y) x h = cc
 read_ok row (Err e) x h = absurd cc
 
--- a beginning of what stands from place k on, before place n
+-- a beginning of what follows from place k on, before place n
 none_again : (p r xs : List ℕ) → [] ≡ p ++ r → take (length p) xs ≡ p
 none_again [] r xs h = refl
 none_again (x ∷ p) r xs h = absurd cc

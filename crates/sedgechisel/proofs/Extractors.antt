@@ -55,7 +55,7 @@ packets_from-next : (octets : List ℕ) (from n : ℕ)
 packets_from-next octets from n first within =
     stands_at octets from n (rw (take_rest octets from) at first) (rw (take_rest octets from) at within)
 
--- a packet that isn't idle
+-- a packet that is not idle
 pub next_stands : (octets : List ℕ) (from n : ℕ)
     → Some (take n (RestOf octets from)) ≡ first_packet (RestOf octets from)
     → n ≤ length (RestOf octets from) → false ≡ is_idle (take (from + n - from) (drop from octets) ++ [])
@@ -64,14 +64,14 @@ pub next_stands : (octets : List ℕ) (from n : ℕ)
 next_stands octets from n first within other =
     ap without_idle (packets_from-next octets from n first within) ∙ rw (idle_is octets from n false other) refl
 
--- an idle one
+-- an idle packet
 pub next_idle : (octets : List ℕ) (from n : ℕ) → Some (take n (RestOf octets from)) ≡ first_packet (RestOf octets from)
     → n ≤ length (RestOf octets from) → true ≡ is_idle (take (from + n - from) (drop from octets) ++ [])
     → without_idle (packets_in (drop from octets)) ≡ without_idle (packets_in (drop (from + n) octets))
 next_idle octets from n first within idle =
     ap without_idle (packets_from-next octets from n first within) ∙ rw (idle_is octets from n true idle) refl
 
--- none
+-- no packet
 pub next_none : (octets : List ℕ) (from : ℕ) → first_packet (RestOf octets from) ≡ None
     → without_idle (packets_in (drop from octets)) ≡ []
 next_none octets from none = ap without_idle (none_at octets from (rw (take_rest octets from) at none))
@@ -93,7 +93,7 @@ finished_split part NoStart payload =
 finished_split part (At p) payload =
     sym (without_idle-append (completed_packet part (take p payload)) (packets_in (drop p payload)))
 
--- the part, which is dropped where a frame is missing
+-- the part, which is dropped if a frame is missing
 pub place_is : (gap : Gap) (x : KeptExtractor) (memory : List ℕ)
     → octets_at (place_over_gap gap x) memory ≡ part_over_gap gap (state_of x memory).part
 place_is gap x memory = grind arith
@@ -135,7 +135,7 @@ frame_taken x f payload memory after part pointer gap k t is points fits gap-is 
     (extracted_described (kept_of k f.vc_count) t after payload) is fits-at room-at
     (rw (gap-at ∙ gap-is, all, kept.part, same, points) refl)
 
--- Telemetry frames one after another, and their packets in the caller's place.
+-- Telemetry frames one after another, and their packets in the caller's buffer.
 
 -- ---- the packets of a frame
 
@@ -157,7 +157,7 @@ few_handed place payload =
       length-drop place payload,
     )
 
--- what is counted is there
+-- what the struct counts exists
 pub record IsExtracted (t : TakenFrame) (room size : ℕ) : Type 0 where
   pub joined : t.joined ≤ room
   pub from : t.packets.from ≤ size
@@ -233,7 +233,7 @@ pub next_is : (total room left : ℕ) (octets : List ℕ) → is_end total room 
     → IsNext total room left octets
 next_is total room left octets h = grind (arith, common_steps, h)
 
--- the frames from a place on, where this one is taken
+-- the frames from a place on, if this one is taken
 pub run_next : (total room left less : ℕ) (octets rest : List ℕ) (state after : Result ExtractorState ℕ) (k most : ℕ)
     → k < most → is_end total room left octets ≡ false
     → left - length (packets_by (came_of state room (take total octets))) ≡ less → drop total octets ≡ rest
@@ -273,9 +273,9 @@ runs_on records packets one more run next all is same =
       after = before_next.after;
     }
 
--- ---- what the call gives to others
+-- ---- what the call passes to other calls
 
--- the octets of the memory and of the place for packets stay as many
+-- the memory and the buffer for packets keep their lengths
 pub end_is : (total end from : ℕ) (memory first packets place octets : List ℕ) → length memory ≡ length first
     → length packets ≡ length place
     → is_end total (length first) (length place - end) (drop from octets)

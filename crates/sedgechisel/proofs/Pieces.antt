@@ -56,7 +56,7 @@ len_is checked octets from count is = ap (whole_len checked) (sym (take_rest oct
 pub record_octets : (checked : Bool) (octets : List ℕ) → length (record_of checked octets) ≡ 12
 record_octets checked octets = refl
 
--- the octets from a place on, as a slice gives them
+-- the octets from a place on, as a slice
 pub piece_is : (octets : List ℕ) (from count : ℕ)
     → take (from + count - from) (drop from octets) ≡ take count (drop from octets)
 piece_is octets from count =
@@ -86,7 +86,7 @@ frames_none checked octets from k n lt is =
 
 -- ---- what is written
 
--- what stands after a place stands after a later one
+-- if the same follows a place, the same follows a later place
 pub later : (xs ys : List ℕ) (m n : ℕ) → m ≤ n → drop m xs ≡ drop m ys → drop n xs ≡ drop n ys
 later xs ys m n le is =
     let more : m + (n - m) ≡ n = omega arith in
@@ -100,7 +100,7 @@ all_done xs ys done k le is rest =
     let long : k ≡ length done = omega (arith, length-take k xs, ap length front) in
     (long, rw (← long, ← rest, ← front) (sym (take-append-drop k xs)))
 
--- Part k of a packet stands at place k times the size of a part.
+-- Part k of a packet is at place k times the size of a part.
 
 -- the segments of what a packet has from its first segment on, or from a later one
 abbrev segments_from : Bool → ℕ → ℕ → List ℕ → List SegmentView
@@ -150,7 +150,7 @@ packet_at octets from len = take len (drop from octets)
 packet-length : (octets : List ℕ) (from len : ℕ) → from + len ≤ length octets → length (packet_at octets from len) ≡ len
 packet-length octets from len fits = omega (arith, length-take len (drop from octets), length-drop from octets)
 
--- what is after a place in the packet
+-- what follows a place in the packet
 behind_place : (octets : List ℕ) (from len start : ℕ) → start ≤ len
     → drop start (packet_at octets from len) ≡ take (len - start) (drop (from + start) octets)
 behind_place octets from len start within =

@@ -46,7 +46,7 @@ ticks_again (Some left) h = grind arith
 ranges_hold : (s : SenderNumbers) → HasRanges s → has_ranges s ≡ true
 ranges_hold s h = grind (arith, common_steps, h)
 
--- ---- what the state says of the other numbers
+-- ---- what the state requires of the other numbers
 
 agreement_holds : (s : SenderNumbers) (m : FopMode) → AgreesWithState s → s.state ≡ m → agrees_in s m ≡ true
 agreement_holds s S1 h is = grind (arith, common_steps, is, h)

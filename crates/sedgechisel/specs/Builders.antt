@@ -22,19 +22,19 @@ pending_of b memory = take b.count (drop b.from memory)
 abbrev pub whole_of : KeptBuilder → List ℕ → List ℕ
 whole_of b memory = drop b.begun (pending_of b memory)
 
--- a builder has such numbers, with this many octets of memory
+-- these are numbers of a builder with this many octets of memory
 abbrev pub has_numbers : KeptBuilder → ℕ → Bool
 has_numbers b room =
     builder_fits b.scid b.vcid b.length && nat_le b.idle_left 6 && nat_le b.from room
     && nat_le b.count (room - b.from)
     && nat_le b.begun b.count
 
--- and all of its octets end with a packet
+-- these are such numbers, and all of the builder's octets end with a packet
 abbrev pub is_builder : KeptBuilder → List ℕ → Bool
 is_builder b memory = has_numbers b (length memory) && (length (rest_in (whole_of b memory)) == 0)
 
--- octets from a packet's start on are whole packets as far as this many octets reach, of which the
--- first ones are left of a packet that was begun
+-- octets from a packet's start on are whole packets as far as this many octets reach; the first
+-- ones of these are left of a packet that was begun
 abbrev pub are_whole : List ℕ → ℕ → ℕ → Bool
 are_whole octets begun room =
     (length (rest_in octets) == 0) || nat_le room (begun + length (concat (packets_in octets)))
@@ -45,7 +45,7 @@ can_send b memory =
     has_numbers b (length memory)
     && are_whole (whole_of b memory) b.begun (b.length - 12 - b.idle_left)
 
--- what it knows beside its octets
+-- what a builder contains in addition to its octets
 abbrev pub turn_of : KeptBuilder → Turn
 turn_of b = record {
   scid = b.scid;
@@ -80,7 +80,7 @@ queued_at b packet memory =
     else if nat_lt (length memory) (b.count + length packet) then Err (fault_row Memory).0
     else Ok (after_queue (state_of b memory) packet)
 
--- the next frame, with this operational control field, where there is so much room, and the state
+-- the next frame, with this operational control field and in a buffer of this size, and the state
 -- after it
 abbrev pub built_at : KeptBuilder → List ℕ → List ℕ → ℕ → Result (FrameView × BuilderState) ℕ
 built_at b ocf memory room =

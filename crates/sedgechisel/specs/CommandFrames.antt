@@ -41,7 +41,7 @@ body_described f payload =
 abbrev pub frame_described : CommandFrame → List ℕ → Result FrameView ℕ
 frame_described f payload = map_ok (frame_with f.scid f.vcid) (body_described f payload)
 
--- ---- from a frame to fields, those that its kind lacks 0, and to where its data stand
+-- ---- from a frame to fields, with 0 for those that its kind lacks, and to the place of its data
 
 abbrev pub unlock_fields : ℕ → ℕ → CommandFrame
 unlock_fields scid vcid =
@@ -64,7 +64,7 @@ fields_with scid vcid (Bc (SetVr x)) = record (unlock_fields scid vcid) { comman
 abbrev pub fields_of : FrameView → CommandFrame
 fields_of f = fields_with f.scid f.vcid f.body
 
--- after the header and the segment header
+-- the place after the header and the segment header
 abbrev pub part_with : BodyView → Part
 part_with (Ad n s) = record { from = 6; count = length s.payload }
 part_with (Bd s) = record { from = 6; count = length s.payload }
@@ -78,13 +78,13 @@ part_of f = part_with f.body
 abbrev pub frame_read : Bool → List ℕ → Result FrameView ℕ
 frame_read checked octets = numbered fault_row (frame_at (check_if checked) octets)
 
--- the frame that is written where there is so much room
+-- the frame that is written to a buffer of this size
 abbrev pub frame_taken : Bool → CommandFrame → List ℕ → ℕ → Result FrameView ℕ
 frame_taken checked f payload room =
     and_then (frame_described f payload) (λ view. if_ok
     (numbered fault_row (encode_answer (check_if checked) view room)) view)
 
--- the declared length of the record that octets begin; 1 Short for fewer than 5
+-- the declared length of the frame that begins with these octets; 1 Short for fewer than 5
 abbrev pub total_declared : Bool → List ℕ → Result ℕ ℕ
 total_declared checked octets =
     if nat_lt (length octets) 5 then Err 1
@@ -98,7 +98,7 @@ DescribesFrame checked octets f part =
 
 -- ---- many frames
 
--- how many octets the whole frame has that octets begin with, and 0 for none
+-- the length of the whole frame at the beginning of octets, and 0 for none
 abbrev pub len_within : Result ℕ ℕ → ℕ → ℕ
 len_within (Ok total) count = if nat_lt count total then 0 else total
 len_within (Err number) count = 0
@@ -110,7 +110,7 @@ abbrev pub no_fields : CommandFrame
 no_fields =
     record { scid = 0; vcid = 0; kind = 0; n = 0; flags = 0; map = 0; command = 0; vr = 0 }
 
--- what is written of a frame of these octets
+-- the record that is written for a frame with this many octets
 abbrev pub record_with : ℕ → ℕ → CommandFrame → List ℕ
 record_with count fault f =
     count % 256 ∷ count / 256 ∷ fault ∷ f.scid % 256 ∷ f.scid / 256 ∷ f.vcid ∷ f.kind
@@ -121,7 +121,7 @@ record_of checked octets =
     let read : Result FrameView ℕ = frame_read checked octets in
     record_with (length octets) (status_of read) (left_by fields_of read no_fields)
 
--- and of the frames from a place on, one after another, so many at most
+-- the records of the frames from a place on, one after another, at most this many
 abbrev pub records_from : Bool → List ℕ → ℕ → ℕ → List ℕ
 records_from checked octets from zero = []
 records_from checked octets from (suc most) =
@@ -130,7 +130,7 @@ records_from checked octets from (suc most) =
     else record_of checked (take count (drop from octets))
     ++ records_from checked octets (from + count) most
 
--- where they end
+-- where these frames end
 abbrev pub end_from : Bool → List ℕ → ℕ → ℕ → ℕ
 end_from checked octets from zero = from
 end_from checked octets from (suc most) =

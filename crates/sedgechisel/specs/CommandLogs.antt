@@ -114,7 +114,7 @@ abbrev pub AreLoggedIf : KeptLog → Result ExecutorState ℕ → Type 0
 AreLoggedIf l (Ok s) = AreLogged l s
 AreLoggedIf l (Err number) = Unit {0}
 
--- what a call answers and leaves in the struct, where the executor is this after it
+-- the return value of a call, and what it leaves in the struct, if this is the executor afterwards
 pub record IsLogged (after : Result ExecutorState ℕ) (old new : KeptLog) (number : ℕ)
     : Type 0 where
   pub written : IsWritten log_of after old new number
@@ -135,7 +135,7 @@ number_of_action (Write place kept) = 0
 number_of_action (Execute number) = number
 number_of_action actions.Restart = 0
 
--- what is to be done next, where there is this much room for the octets of a place
+-- the next action, with a buffer of this size for the octets of a place
 abbrev pub log_action : KeptLog → ℕ → Result Action ℕ
 log_action l room =
     if room == 50 then map_ok action_of (log_described l) else Err wrong_count
@@ -148,7 +148,7 @@ octets_after (Ok (Execute number)) old = old
 octets_after (Ok actions.Restart) old = old
 octets_after (Err number) old = old
 
--- the action of this kind and number is done, if it is what is to be done
+-- the action of this kind and number is done, if it is the next action
 abbrev pub done_if : ExecutorState → (kind number : ℕ) → Result ExecutorState ℕ
 done_if s kind number =
     if (kind == action_number (action_of s)) && (number == number_of_action (action_of s))
@@ -172,7 +172,7 @@ log_obeyed l octets =
     and_then (log_described l) (λ s. if_ok (numbered fault_row (order_answer s octets))
     (executor_step s (Obeys octets)))
 
--- the status with this many waiting, where there is this much room
+-- the status with this many commands waiting, in a buffer of this size
 abbrev pub log_told : KeptLog → (waiting room : ℕ) → Result (List ℕ) ℕ
 log_told l waiting room =
     if room == 27
@@ -188,7 +188,7 @@ abbrev pub status_with : Record → (mark kind waiting : ℕ) → LogStatus
 status_with kept mark kind waiting =
     record { kept = log_record_of kept; mark = mark; kind = kind; waiting = waiting }
 
--- the fields of a status, and of how many commands wait
+-- the fields of a status and of the number of commands that wait
 abbrev pub status_fields : Status × ℕ → LogStatus
 status_fields (Says kept, waiting) = status_with kept 0 0 waiting
 status_fields (Changes, waiting) = status_with (no_commands 0 0) 0 1 waiting
@@ -205,7 +205,7 @@ command_with apid count number content =
 abbrev pub command_total : CommandView → ℕ
 command_total c = length c.content + 14
 
--- the command packet that is written where there is this much room
+-- the command packet that is written to a buffer of this size
 abbrev pub command_taken : CommandView → ℕ → Result CommandView ℕ
 command_taken c room = if_ok (numbered fault_row (command_answer c room)) c
 
@@ -216,7 +216,7 @@ order_described o =
     else if (o.kind == 1) && ((o.last == 0) && (o.mark == 0)) then Ok (orders.Restart o.boot)
     else Err damaged
 
--- the order that is written where there is this much room
+-- the order that is written to a buffer of this size
 abbrev pub order_taken : LogOrder → (apid count room : ℕ) → Result Order ℕ
 order_taken o apid count room =
     and_then (order_described o) (λ order. if_ok

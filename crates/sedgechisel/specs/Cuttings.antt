@@ -1,4 +1,4 @@
--- Cutting packets into segments as C asks for it.
+-- Cutting packets into segments as C requests it.
 use Rattle.std.specs.Prelude.{◌≡◌, ℕ, List, length, take, drop, Bool, true, false, ◌&&◌, ◌==◌}
 use Rattle.std.specs.Prelude.{nat_lt, if◌then◌else◌, Option, Some, None, Result, Ok, Err, slice_get}
 use Rattle.std.specs.List.{concat}
@@ -15,7 +15,7 @@ use Rattle.sedgechisel.specs.declared.cutting.Place.{Place}
 use Rattle.sedgechisel.specs.declared.part.Part.{Part}
 use Rattle.sedgechisel.specs.Answers.{damaged, and_then, if_there}
 
--- the limits that the fields describe; any MAP will do, and it stands as MAP 0
+-- the limits that the fields describe; the MAP does not matter, and is MAP 0 here
 abbrev pub limits_described : CutLimits → Result Limits ℕ
 limits_described l =
     if nat_lt 0 l.part && nat_lt l.blocking 2
@@ -45,7 +45,7 @@ segment_described l octets k =
 abbrev pub octets_before : List SegmentView → ℕ → ℕ
 octets_before segments k = length (concat (payloads (take k segments)))
 
--- where the data of segment k are: after those of the segments before it, all of them
+-- where the data of segment k are: after the data of all segments before it
 abbrev pub part_at : List SegmentView → ℕ → SegmentView → Part
 part_at segments k segment =
     record { from = octets_before segments k; count = length segment.payload }
@@ -55,7 +55,7 @@ part_described l octets k =
     and_then (segments_described l octets)
     (λ segments. map_ok (part_at segments k) (if_there (slice_get segments k)))
 
--- these are the segment's data, where there is one
+-- these are the segment's data, if there is one
 abbrev pub DescribesSegment : Result SegmentView ℕ → List ℕ → Type 0
 DescribesSegment (Ok segment) octets = octets ≡ segment.payload
 DescribesSegment (Err number) octets = Unit {0}

@@ -1,5 +1,5 @@
--- An extractor of packets as C keeps it, what C is given of a telemetry frame, and of frames one
--- after another.
+-- An extractor of packets as C keeps it, and what C receives from a telemetry frame and from
+-- consecutive frames.
 use Rattle.std.specs.Prelude.{◌≡◌, ◌≤◌, ℕ, ◌+◌, ◌-◌, true, false, List, [], ◌∷◌, ◌++◌, length, take}
 use Rattle.std.specs.Prelude.{drop, Bool, not, ◌&&◌, ◌||◌, ◌==◌, nat_lt, nat_le, if◌then◌else◌}
 use Rattle.std.specs.Prelude.{Option, Some, None, Result, Ok, Err, zero, suc, ◌/◌, ◌%◌, slice_index}
@@ -28,11 +28,11 @@ use Rattle.sedgechisel.specs.declared.telemetry_extractor.Kept.{Kept}
 use Rattle.sedgechisel.specs.declared.extracted_frames.Came.{Came}
 use Rattle.sedgechisel.specs.Receivers.{flag_number}
 
--- An extractor of packets as C keeps it, and what C is given of a telemetry frame.
+-- An extractor of packets as C keeps it, and what C receives from a telemetry frame.
 
 -- ---- what the structs describe
 
--- an extractor has such fields, with this many octets of memory
+-- these are fields of an extractor with this many octets of memory
 abbrev pub is_extractor : KeptExtractor → ℕ → Bool
 is_extractor x room =
     nat_lt x.seen 2 && nat_le x.from room && nat_le x.count (room - x.from)
@@ -45,7 +45,7 @@ octets_at place octets = take place.count (drop place.from octets)
 abbrev pub last_of : KeptExtractor → Option ℕ
 last_of x = if x.seen == 1 then Some x.last else None
 
--- the part of a packet whose end is to come
+-- the last frame's count, and the part of a packet that has not ended
 abbrev pub state_of : KeptExtractor → List ℕ → ExtractorState
 state_of x memory = record { last = last_of x; part = take x.count (drop x.from memory) }
 
@@ -61,13 +61,13 @@ gap_at t = if t.first == 1 then First else Lost t.lost
 abbrev pub joined_at : ℕ → List ℕ → List (List ℕ)
 joined_at joined memory = if joined == 0 then [] else take joined memory ∷ []
 
--- and those of the frame's data from the place on, but for idle ones
+-- this packet, and those of the frame's data from the place on, except idle ones
 abbrev pub packets_described : TakenFrame → List ℕ → List ℕ → List (List ℕ)
 packets_described t memory payload =
     joined_at t.joined memory
     ++ without_idle (packets_in (drop (t.packets.from + t.packets.count) payload))
 
--- what is counted is there: in the memory, and in a data field of this many octets
+-- what the struct counts exists: in the memory, and in a data field of this many octets
 abbrev pub is_extracted : TakenFrame → ℕ → ℕ → Bool
 is_extracted t room size =
     nat_le t.joined room && nat_le t.packets.from size && (t.packets.count == 0)
@@ -83,20 +83,20 @@ extracted_described x t memory payload = record {
 
 -- ---- how much memory a frame needs
 
--- the packet that the part is with the octets before the first start, unless it is idle
+-- the packet that the part forms with the octets before the first start, unless it is idle
 abbrev pub joined_by : List ℕ → Pointer → List ℕ → List (List ℕ)
 joined_by part OnlyIdle payload = []
 joined_by part NoStart payload = without_idle (completed_packet part payload)
 joined_by part (At p) payload = without_idle (completed_packet part (take p payload))
 
--- the octets of that packet and of the part that the frame leaves
+-- the number of octets of that packet and of the part that the frame leaves
 abbrev pub need_of : List ℕ → Pointer → List ℕ → ℕ
 need_of part pointer payload =
     length (concat (joined_by part pointer payload)) + length (part_after part pointer payload)
 
 -- ---- the calls
 
--- what a frame leads to, where the memory has room for it
+-- what a frame leads to, if the memory has room for it
 abbrev pub extracted_from : ExtractorState → FrameView → ℕ → Result Extracted ℕ
 extracted_from s f room =
     let part : List ℕ = part_over_gap (gap_of s.last f.vc_count) s.part in
@@ -110,24 +110,24 @@ extracted_at x f payload memory =
     then Err (fault_row FieldRange).0
     else extracted_from (state_of x memory) (frame_described f payload) (length memory)
 
--- the structs, the memory and the data describe what the frame leads to, where it is taken
+-- the structs, the memory and the data describe what the frame leads to, if it is taken
 abbrev pub DescribesExtracted : Result Extracted ℕ → Extracted → Type 0
 DescribesExtracted (Ok e) described = described ≡ e
 DescribesExtracted (Err number) described = Unit {0}
 
 -- ---- parts of the calls
 
--- where the part stands, if no frame is missing after it
+-- where the part is, if no frame is missing after it
 abbrev pub place_over_gap : Gap → KeptExtractor → Part
 place_over_gap gap x =
     if is_any_lost gap then record { from = 0; count = 0 }
     else record { from = x.from; count = x.count }
 
--- how a part and octets after it end, where there is a part
+-- how a part and octets after it end, if there is a part
 abbrev pub ending_after : List ℕ → List ℕ → Ending
 ending_after part octets = if length part == 0 then Wrong else ending_of (part ++ octets)
 
--- the octets of the packet that they are, unless it is idle
+-- the number of octets of the packet that they form, unless it is idle
 abbrev pub joined_len : List ℕ → List ℕ → ℕ
 joined_len part octets = length (concat (without_idle (completed_packet part octets)))
 
@@ -137,7 +137,7 @@ packets_from (At p) size = p
 packets_from NoStart size = size
 packets_from OnlyIdle size = size
 
--- this is the first packet from a place on that isn't idle
+-- this is the first packet from a place on that is not idle
 abbrev pub StandsAfter : List ℕ → ℕ → Option Part → Type 0
 StandsAfter octets place None = without_idle (packets_in (drop place octets)) ≡ []
 StandsAfter octets place (Some p) =
@@ -145,8 +145,8 @@ StandsAfter octets place (Some p) =
     ≡ octets_at p octets ∷ without_idle (packets_in (drop (p.from + p.count) octets)))
     × (p.from + p.count ≤ length octets)
 
--- the packet after a part that isn't idle, and those after it, are the packets after the part that
--- aren't idle
+-- the packet that is not idle after a part, and those after it, are the packets after the part that
+-- are not idle
 abbrev pub GoesOn : List ℕ → Part → Part → Bool → Type 0
 GoesOn octets old new true =
     (without_idle (packets_in (drop (old.from + old.count) octets))
@@ -157,7 +157,7 @@ GoesOn octets old new false =
 
 -- What a data field leaves in an extractor's memory.
 
--- the memory holds these packets, one at most, at its beginning, and the part that is left
+-- the memory holds these packets, at most one, at its beginning, and the part that is left
 pub record IsKept (k : Kept) (memory : List ℕ) (packets : List (List ℕ)) (left : List ℕ) : Type 0
   where
     pub joined : joined_at k.joined memory ≡ packets
@@ -165,7 +165,7 @@ pub record IsKept (k : Kept) (memory : List ℕ) (packets : List (List ℕ)) (le
     pub room : k.joined ≤ length memory
     pub within : k.part.from + k.part.count ≤ length memory
 
--- Telemetry frames that stand one after another, and what C is given of their packets.
+-- Consecutive telemetry frames, and what C receives of their packets.
 
 -- ---- the packet that was begun
 
@@ -175,7 +175,7 @@ front_of OnlyIdle payload = []
 front_of NoStart payload = payload
 front_of (At p) payload = take p payload
 
--- whether a packet that has such an end after these octets ends or goes on
+-- whether a packet with such an end after these octets ends or continues
 abbrev pub is_carried : Pointer → Ending → Bool
 is_carried OnlyIdle e = false
 is_carried NoStart Whole = true
@@ -192,7 +192,7 @@ abbrev pub is_cut_off : Pointer → List ℕ → Bool
 is_cut_off pointer octets =
     not (is_carried pointer (ending_of octets)) && not (begins_idle octets)
 
--- whether the frame drops a packet that was begun, which isn't idle
+-- whether the frame drops a packet that was begun and is not idle
 abbrev pub is_dropped : ExtractorState → FrameView → Bool
 is_dropped s f =
     if length s.part == 0 then false
@@ -201,18 +201,18 @@ is_dropped s f =
 
 -- ---- a frame
 
--- what a frame leads to, where the memory has this much room, as `extracted_at` has it
+-- what a frame leads to with a memory of this size, as in `extracted_at`
 abbrev pub extracted_with : ExtractorState → FrameView → ℕ → Result Extracted ℕ
 extracted_with s f room =
     if not (pointer_fits f.pointer (length f.payload)) then Err (fault_row FieldRange).0
     else extracted_from s f room
 
--- what comes of a frame: what it leads to, and whether it drops a packet
+-- what becomes of a frame: what it leads to, and whether it drops a packet
 abbrev pub came_from : Result ExtractorState ℕ → ℕ → FrameView → Result (Extracted × Bool) ℕ
 came_from state room f =
     and_then state (λ s. map_ok (λ e. (e, is_dropped s f)) (extracted_with s f room))
 
--- and of the octets of one
+-- what becomes of the octets of a frame
 abbrev pub came_of : Result ExtractorState ℕ → ℕ → List ℕ → Result (Extracted × Bool) ℕ
 came_of state room octets = and_then (frame_read (length octets) octets) (came_from state room)
 
@@ -221,13 +221,13 @@ abbrev pub packets_by : Result (Extracted × Bool) ℕ → List ℕ
 packets_by (Ok came) = concat came.0.packets
 packets_by (Err number) = []
 
--- the state after it
+-- the state after the frame
 abbrev pub state_by
     : Result (Extracted × Bool) ℕ → Result ExtractorState ℕ → Result ExtractorState ℕ
 state_by (Ok came) state = Ok came.0.after
 state_by (Err number) state = state
 
--- ---- what is written of a frame
+-- ---- the record of a frame
 
 abbrev pub first_by : Gap → ℕ
 first_by First = 1
@@ -273,14 +273,14 @@ record_of state room octets =
 
 -- ---- frames one after another
 
--- what comes of frames: their records and the octets of their packets, and the state after them
+-- what becomes of frames: their records, the octets of their packets, and the state after them
 pub record Run : Type 0 where
   pub records : List ℕ
   pub packets : List ℕ
   pub after : Result ExtractorState ℕ
 
--- no frame is taken: these octets aren't one of this length, or the place for packets has this much
--- left, which is less than the memory and a frame have
+-- no frame is taken: these octets do not contain one of this length, or this much is left of the
+-- buffer for packets, which is less than the memory and a frame have
 abbrev pub is_end : ℕ → ℕ → ℕ → List ℕ → Bool
 is_end total room left octets =
     (total == 0) || nat_lt (length octets) total || nat_lt left (room + total)
@@ -292,7 +292,7 @@ abbrev pub before : List ℕ → List ℕ → Run → Run
 before one packets run =
     record run { records = one ++ run.records; packets = packets ++ run.packets }
 
--- the frames that the octets begin with, so many at most
+-- the frames at the beginning of the octets, at most this many
 abbrev pub run_from : ℕ → ℕ → ℕ → List ℕ → Result ExtractorState ℕ → ℕ → Run
 run_from total room left octets state zero = nothing state
 run_from total room left octets state (suc most) =

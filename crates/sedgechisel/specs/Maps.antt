@@ -1,4 +1,4 @@
--- A MAP as C keeps it, and what C is given of a segment.
+-- A MAP as C keeps it, and what C receives from a segment.
 use Rattle.std.specs.Prelude.{◌≡◌, ℕ, ◌+◌, true, false, List, [], ◌∷◌, length, take, drop, min}
 use Rattle.std.specs.Prelude.{Bool, ◌&&◌, ◌||◌, ◌==◌, nat_lt, nat_le, if◌then◌else◌, Option, Some}
 use Rattle.std.specs.Prelude.{None, Result, Ok, Err}
@@ -20,17 +20,17 @@ use Rattle.c_words.specs.Words.{found_by}
 
 -- ---- what the structs describe
 
--- a MAP has such fields, with this many octets of memory
+-- these are fields of a MAP with this many octets of memory
 abbrev pub is_map : KeptMap → ℕ → Bool
 is_map m room =
     nat_lt m.is_open 2 && nat_lt m.blocking 2 && nat_le m.count room
     && ((m.is_open == 1) || (m.count == 0))
 
--- the part that is open, the first octets of the memory
+-- the open part, which is the first octets of the memory
 abbrev pub part_of : KeptMap → List ℕ → Option (List ℕ)
 part_of m memory = if m.is_open == 1 then Some (take m.count memory) else None
 
--- the memory holds the longest packet; the MAP itself stands as MAP 0, which is open
+-- the memory holds the longest packet; the MAP itself appears as MAP 0, which is open
 abbrev pub limits_of : KeptMap → ℕ → Limits
 limits_of m room =
     record { part = 1; max_packet = min room 4294967295; maps = 1; blocking = m.blocking == 1 }
@@ -44,20 +44,19 @@ cause_at n =
     found_by (λ cause. (cause_row cause).0)
     (ClosedMap ∷ Interrupted ∷ NoBeginning ∷ NotAPacket ∷ TooLong ∷ []) n
 
--- it is a cause's number, or 0
+-- this is the number of a cause, or 0
 abbrev pub IsCauseNumber : ℕ → Type 0
 IsCauseNumber n = cause_at n ≡ None → n ≡ 0
 
--- the packets that are whole now: one at the beginning of the memory, or those of the segment's
--- data
+-- the packets that are whole now: one at the beginning of the memory, or the packets of the
+-- segment's data
 abbrev pub packets_described : TakenSegment → List ℕ → List ℕ → List (List ℕ)
 packets_described t memory octets =
     if t.place == 1 then take t.count memory ∷ []
     else if t.place == 2 then packets_in (take t.count octets)
     else []
 
--- the struct counts octets that are there: the first of the memory, all of the segment's data, or
--- none
+-- the struct counts octets that exist: the first of the memory, all of the segment's data, or none
 abbrev pub is_counted : TakenSegment → List ℕ → List ℕ → Bool
 is_counted t memory octets =
     if t.place == 1 then nat_le t.count (length memory)
@@ -73,7 +72,7 @@ outcome_described m t memory octets =
       part = part_of m memory;
     }
 
--- with no part open
+-- a MAP with no part open
 abbrev pub closed : KeptMap → KeptMap
 closed m = record m { count = 0; is_open = 0 }
 
@@ -90,12 +89,12 @@ taken_at m flags octets memory =
     (segment_with (flags_at flags) 0 octets))
     else Err damaged
 
--- the structs and the octets describe the outcome, where there is one
+-- the structs and the octets describe the outcome, if there is one
 abbrev pub DescribesOutcome : Result TakeOutcome ℕ → TakeOutcome → Type 0
 DescribesOutcome (Ok o) described = described ≡ o
 DescribesOutcome (Err number) described = Unit {0}
 
--- where the packet stands that octets begin with after a part
+-- the place of the packet that follows a part of the octets
 abbrev pub part_behind : ℕ → Option (List ℕ) → Option Part
 part_behind place None = None
 part_behind place (Some packet) = Some (record { from = place; count = length packet })

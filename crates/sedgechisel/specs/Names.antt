@@ -47,7 +47,7 @@ alert_at n = found_by (λ alert. (alert_row alert).0)
 abbrev pub alert_word : ℕ → List ℕ
 alert_word n = name_if alert_row (alert_at n)
 
--- whether an alert says that a condition is broken; none does not
+-- whether an alert shows a broken condition; false for none
 abbrev pub broken_if : Option Alert → Bool
 broken_if None = false
 broken_if (Some alert) = shows_broken alert

@@ -37,43 +37,43 @@ fields_of p = record {
   flags = p.flags;
 }
 
--- where its data stand, after the header
+-- where the packet's data are, after the header
 abbrev pub part_of : PacketView → Part
 part_of p = record { from = 6; count = length p.payload }
 
 -- ---- the calls
 
--- the packet that octets begin with
+-- the packet at the beginning of octets
 abbrev pub packet_read : List ℕ → Result PacketView ℕ
 packet_read octets = map_ok (λ found. found.0) (numbered fault_row (packet_at octets))
 
--- the packet that is written where there is so much room
+-- the packet that is written to a buffer of this size
 abbrev pub packet_taken : PacketFields → List ℕ → ℕ → Result PacketView ℕ
 packet_taken p payload room =
     and_then (packet_described p payload) (λ view. if_ok
     (numbered fault_row (encode_answer view room)) view)
 
--- the declared length of the packet that octets begin; 1 Truncated for fewer than 6
+-- the declared length of the packet that begins with these octets; 1 Truncated for fewer than 6
 abbrev pub total_declared : List ℕ → Result ℕ ℕ
 total_declared octets =
     if nat_lt (length octets) 6 then Err 1
     else numbered fault_row (extent_at (take 6 octets))
 
--- the count that a place of the last ones has, if one was seen
+-- the last count in an entry, if one was seen
 abbrev pub count_seen : ℕ → Option ℕ
 count_seen last = if nat_lt last 16384 then Some last else None
 
--- an APID and a count of packets
+-- whether these are an APID and a packet count in range
 abbrev pub is_counted : ℕ → ℕ → Bool
 is_counted apid count = nat_lt apid 2048 && nat_lt count 16384
 
--- how many packets are missing before one, where these counts were seen last
+-- how many packets are missing before a packet, if these counts were seen last
 abbrev pub gap_seen : List ℕ → ℕ → ℕ → Result ℕ ℕ
 gap_seen last apid count =
     if is_counted apid count then if_there (gap_after (count_seen (slice_index last apid)) count)
     else Err (fault_row FieldRange).0
 
--- the check before any packet was seen, and after this one
+-- the check of counts before any packet was seen, and after this packet
 abbrev pub new_gaps : KeptGaps
 new_gaps = record { last = replicate 2048 65535 }
 

@@ -16,7 +16,7 @@ abbrev pub flag_number : Bool → ℕ
 flag_number true = 1
 flag_number false = 0
 
--- a width that is even, 2 to 254
+-- the width is even, 2 to 254
 abbrev pub is_width : ℕ → Bool
 is_width width = nat_le 2 width && nat_le width 254 && (width % 2 == 0)
 
@@ -26,7 +26,7 @@ are_flags_whole r =
     nat_lt r.lockout 2 && nat_lt r.wait 2 && nat_lt r.retransmit 2 && nat_lt r.farm_b 4
     && nat_le r.wait r.retransmit
 
--- a receiver has such fields
+-- these are fields of a receiver
 abbrev pub is_whole : Receiver → Bool
 is_whole r = is_width r.width && are_flags_whole r
 
@@ -56,7 +56,7 @@ receiver_of s = record {
 abbrev pub farm_described : Receiver → Result FarmState ℕ
 farm_described r = if is_whole r then Ok (farm_of r) else Err damaged
 
--- a new receiver, where the width is one; 1 Width
+-- a new receiver, if the width is valid; otherwise 1 Width
 abbrev pub farm_opened : ℕ → ℕ → Result FarmState ℕ
 farm_opened width vr = if is_width width then Ok (new_farm width vr) else Err 1
 
@@ -64,18 +64,18 @@ farm_opened width vr = if is_width width then Ok (new_farm width vr) else Err 1
 abbrev pub farm_stepped : Receiver → FarmEvent → Result FarmState ℕ
 farm_stepped r event = map_ok (λ s. farm_step s event) (farm_described r)
 
--- what a call answers and leaves in the struct, where an event came to the receiver
+-- the return value of a call, and what it leaves in the struct, when an event came to the receiver
 abbrev pub IsStepped : FarmEvent → Receiver → Receiver → ℕ → Type 0
 IsStepped event old new number = IsWritten receiver_of (farm_stepped old event) old new number
 
--- what the receiver reports for a virtual channel; 5 Range where that is 64 or more
+-- the receiver's CLCW for a virtual channel; 5 Range if the channel is 64 or more
 abbrev pub farm_report : Receiver → ℕ → Result Clcw ℕ
 farm_report r vcid =
     if not (is_whole r) then Err damaged
     else if nat_lt vcid 64 then Ok (report_of (farm_of r) vcid)
     else Err 5
 
--- a number for an answer, and the fault's number for none
+-- the number of an answer, or of the fault if there is none
 abbrev pub answer_of : {A : Type 0} → (A → ℕ) → Result A ℕ → ℕ
 answer_of number (Ok x) = number x
 answer_of number (Err fault) = fault

@@ -31,7 +31,7 @@ use Rattle.sedgechisel.specs.Receivers.{flag_number}
 abbrev pub mode_number : FopMode → ℕ
 mode_number mode = elim mode [ S1 ↦ 1 | S2 ↦ 2 | S3 ↦ 3 | S4 ↦ 4 | S5 ↦ 5 | S6 ↦ 6 ]
 
--- the ticks that are left, and 0 where the timer is off
+-- the ticks that are left, and 0 if the timer is off
 abbrev pub ticks_number : Option ℕ → ℕ
 ticks_number None = 0
 ticks_number (Some left) = left
@@ -77,7 +77,7 @@ mode_at n = found_by mode_number (S1 ∷ S2 ∷ S3 ∷ S4 ∷ S5 ∷ S6 ∷ []) 
 abbrev pub ticks_at : ℕ → Option ℕ
 ticks_at n = if n == 0 then None else Some n
 
--- a command without a number has 0 for it
+-- a command without a number has the number 0
 abbrev pub control_at : ℕ → ℕ → Option Control
 control_at n vr =
     if n == 3 then Some (Due (SetVr vr))
@@ -116,7 +116,7 @@ fields_with k None waiting control = Err damaged
 abbrev pub fields_described : KeptSender → Result SenderNumbers ℕ
 fields_described k = fields_with k (mode_at k.state) (flag_at k.waiting) (control_at k.control k.vr)
 
--- the ranges of a sender's numbers
+-- the numbers are in a sender's ranges
 abbrev pub has_ranges : SenderNumbers → Bool
 has_ranges s =
     nat_le (ahead_by s.vs s.nn) s.room
@@ -133,12 +133,12 @@ is_idle (Sent command) = false
 abbrev pub is_numbered : SenderNumbers → Bool
 is_numbered s = ahead_by s.vs s.nn == s.sent.count
 
--- a command to set V(R) sets it to V(S)
+-- a Set V(R) command has the value of V(S)
 abbrev pub sets_to : ℕ → Command → Bool
 sets_to vs Unlock = true
 sets_to vs (SetVr vr) = vr == vs
 
--- a control command is due, or it is sent and the timer runs
+-- a control command is due, or it was sent and the timer runs
 abbrev pub is_commanding : ℕ → Bool → Control → Bool
 is_commanding vs runs Idle = false
 is_commanding vs runs (Due command) = sets_to vs command
@@ -148,8 +148,8 @@ is_commanding vs runs (Sent command) = runs && sets_to vs command
 abbrev pub is_timed : SenderNumbers → Bool
 is_timed s = if is_some s.ticks then nat_le 1 s.sent.count else s.sent.count == 0
 
--- units are sent in S1 to S3 alone, and in S2 and S3 there are some; the timer runs while there
--- are, and in S4; a control command is there in S5 alone; in S6 nothing is there
+-- only S1 to S3 have sent units, and S2 and S3 have at least one; the timer runs while there are
+-- sent units, and in S4; only S5 has a control command; S6 has none of these
 abbrev pub agrees_in : SenderNumbers → FopMode → Bool
 agrees_in s S1 = is_numbered s && is_idle s.control && is_timed s
 agrees_in s S4 = is_numbered s && is_idle s.control && is_some s.ticks && (s.sent.count == 0)
@@ -158,7 +158,7 @@ agrees_in s S5 =
 agrees_in s S6 = (s.sent.count == 0) && not s.waiting && not (is_some s.ticks) && is_idle s.control
 agrees_in s _ = is_numbered s && is_idle s.control && is_some s.ticks && nat_le 1 s.sent.count
 
--- a sender has such numbers
+-- these are numbers of a sender
 abbrev pub is_sender : SenderNumbers → Bool
 is_sender s = has_ranges s && agrees_in s s.state
 
@@ -166,12 +166,12 @@ is_sender s = has_ranges s && agrees_in s s.state
 abbrev pub sender_described : KeptSender → Result SenderNumbers ℕ
 sender_described k = and_then (fields_described k) (λ s. if is_sender s then Ok s else Err damaged)
 
--- the fields describe this sender, where there is one
+-- the fields describe this sender, if there is one
 abbrev pub AreDescribed : KeptSender → Result SenderNumbers ℕ → Type 0
 AreDescribed k (Ok s) = sender_described k ≡ Ok s
 AreDescribed k (Err number) = Unit {0}
 
--- what a call answers and leaves in the struct, where the sender is this after it
+-- the return value of a call, and what it leaves in the struct, if this is the sender afterwards
 pub record IsAnswered (after : Result SenderNumbers ℕ) (old new : KeptSender) (number : ℕ)
     : Type 0 where
   pub written : IsWritten kept_of after old new number
@@ -197,7 +197,7 @@ stepped k input = map_ok (λ s. sender_step s input) (sender_described k)
 abbrev pub after_step : KeptSender → SenderInput → Result SenderNumbers ℕ
 after_step k input = map_ok (λ o. o.after) (stepped k input)
 
--- the sender after what may be refused
+-- the sender after a call that may be refused
 abbrev pub unless_fault : {A : Type 0} → SenderNumbers → Result A CopFault → Result SenderNumbers ℕ
 unless_fault s (Ok answer) = Ok s
 unless_fault s (Err fault) = Err (fault_row fault).0
@@ -205,21 +205,21 @@ unless_fault s (Err fault) = Err (fault_row fault).0
 abbrev pub submitted : KeptSender → Result SenderNumbers ℕ
 submitted k = and_then (stepped k Submit) (λ o. unless_fault o.after o.answer)
 
--- what a directive leads to, if there is one
+-- the sender after a directive, if there is one
 abbrev pub directed : KeptSender → Option Directive → Result SenderNumbers ℕ
 directed k None = Err damaged
 directed k (Some directive) =
     and_then (stepped k (Direct directive)) (λ o. unless_fault o.after o.answer)
 
--- what a control word leads to at the sender of a virtual channel: one of another channel is no
--- report
+-- what a CLCW leads to at the sender of a virtual channel; a CLCW of another channel leads to the
+-- answer `absent`
 abbrev pub reported : KeptSender → ℕ → Clcw → Result (SenderOutcome (Option Alert)) ℕ
 reported k vcid word = if word.vcid == vcid then stepped k (Report word) else Err absent
 
 abbrev pub after_report : KeptSender → ℕ → Clcw → Result SenderNumbers ℕ
 after_report k vcid word = map_ok (λ o. o.after) (reported k vcid word)
 
--- how many units a report's value says were accepted, where it says so
+-- how many units were accepted according to a CLCW's value, if the value shows it
 abbrev pub accepted_by : KeptSender → ℕ → Result ℕ ℕ
 accepted_by k value =
     and_then (sender_described k) (λ s. if_there (accepted_beyond s.nn s.vs value))
@@ -236,7 +236,7 @@ next_answer (next.Control (SetVr vr)) = 2
 next_answer (next.First n) = 3
 next_answer (next.Again n) = 4
 
--- the number that goes with it, and 0 for none
+-- the number that goes with what is sent, and 0 for none
 abbrev pub next_number : SenderNext → ℕ
 next_number next.Nothing = 0
 next_number (next.Control Unlock) = 0

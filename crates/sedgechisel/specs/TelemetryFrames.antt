@@ -1,4 +1,4 @@
--- Telemetry frames and control words, as C has them.
+-- Telemetry frames and CLCWs, as C has them.
 use Rattle.std.specs.Prelude.{ℕ, List, length, ◌==◌, if◌then◌else◌, Result, Err, ◌≡◌, take, drop}
 use Rattle.std.specs.Prelude.{Ok}
 use Rattle.clcw.specs.declared.word.Clcw.{Clcw}
@@ -13,21 +13,21 @@ use Rattle.sedgechisel.specs.Answers.{wrong_count, numbered, if_ok}
 use Rattle.sedgechisel.specs.declared.telemetry_frame.TelemetryFrame.{TelemetryFrame}
 use Rattle.sedgechisel.specs.declared.part.Part.{Part}
 
--- Control words as C has them.
+-- CLCWs as C has them.
 
--- the word that octets spell, which are to be four
+-- the CLCW that octets spell, which must be four
 abbrev pub word_read : List ℕ → Result Clcw ℕ
 word_read octets =
     if length octets == 4 then numbered word_faults.fault_row (clcw_at octets) else Err wrong_count
 
--- the octets that spell the word, where there is room for exactly four
+-- the octets that spell the CLCW, if the buffer has exactly four
 abbrev pub word_written : Clcw → ℕ → Result (List ℕ) ℕ
 word_written w room =
     if room == 4 then numbered word_faults.fault_row (writing.encode_answer w) else Err wrong_count
 
 -- Telemetry frames as C has them.
 
--- the frame that the fields and the data describe; the pointer is as the header has it
+-- the frame that the fields and the data describe; the pointer has its value in the header
 abbrev pub frame_described : TelemetryFrame → List ℕ → FrameView
 frame_described f payload = record {
   scid = f.scid;
@@ -50,7 +50,7 @@ fields_of f = record {
   ocf = f.ocf;
 }
 
--- where its data stand, after the header
+-- where the frame's data are, after the header
 abbrev pub part_of : FrameView → Part
 part_of f = record { from = 6; count = length f.payload }
 
@@ -59,7 +59,7 @@ part_of f = record { from = 6; count = length f.payload }
 abbrev pub frame_read : ℕ → List ℕ → Result FrameView ℕ
 frame_read total octets = numbered fault_row (frame_at total octets)
 
--- the frame that is written where there is so much room
+-- the frame that is written to a buffer of this size
 abbrev pub frame_taken : TelemetryFrame → List ℕ → ℕ → Result FrameView ℕ
 frame_taken f payload room =
     if_ok (numbered fault_row (encode_answer (frame_described f payload) room))

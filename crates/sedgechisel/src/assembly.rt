@@ -10,8 +10,8 @@ use map_service::{Action, Decision, Dropped, Limits, decide, fault_of_one};
 use space_packet::packet_len;
 use tc_frame::SegmentFlags;
 
-/// One MAP (CCSDS 232.0-B-4, 4.1.3.2): how many octets of the memory the open part has, whether one is open, and
-/// whether a segment may hold several packets. For C it is `struct sedge_map`.
+/// One MAP (CCSDS 232.0-B-4, 4.1.3.2): how many octets of the memory the open part has, whether one is open,
+/// and whether a segment may hold several packets. For C it is `struct sedge_map`.
 #[repr(C)]
 #[derive(Clone, Copy)]
 pub struct KeptMap {
@@ -23,9 +23,9 @@ pub struct KeptMap {
     pub blocking: u8,
 }
 
-/// What came of a segment: how many octets the packets have that are whole now; 0 for none, 1 for one at the beginning
-/// of the memory, 2 for the segment's data; and the number of the cause of a drop, or 0. For C it is
-/// `struct sedge_taken`.
+/// What became of a segment: the number of octets of the packets that are whole now; their place, 0 for none,
+/// 1 for one at the beginning of the memory, 2 for the segment's data; and the number of the cause of a drop,
+/// or 0. For C it is `struct sedge_taken`.
 #[repr(C)]
 #[derive(Clone, Copy)]
 pub struct TakenSegment {
@@ -37,8 +37,8 @@ pub struct TakenSegment {
     pub dropped: u8,
 }
 
-/// Takes the next segment of the MAP, its flags of `sedge_segment_flags` and its data. Hand the packets that are whole
-/// now on before the next call. Returns 0, or `SEDGE_DAMAGED`, also for flags above 3.
+/// Takes the next segment of the MAP: its flags, of `sedge_segment_flags`, and its data. Pass on the packets
+/// that are whole now before the next call. Returns 0, or `SEDGE_DAMAGED`, also for flags above 3.
 #[unsafe(no_mangle)]
 #[must_use]
 pub extern "C" fn sedge_map_take(
@@ -96,7 +96,7 @@ fn part_in<'a>(map: &KeptMap, memory: &'a [u8]) -> Option<&'a [u8]>
     Some(&memory[..map.count])
 }
 
-// Does what is decided of a segment.
+// Carries out the decision on a segment.
 fn take_segment(
     map: &mut KeptMap,
     flags: SegmentFlags,
@@ -143,7 +143,7 @@ fn take_segment(
     }
 }
 
-// No part is open.
+// Closes the part.
 fn close(map: &mut KeptMap)
     ensures { map.new ≡ closed map.old }
 {
@@ -151,7 +151,7 @@ fn close(map: &mut KeptMap)
     map.is_open = 0;
 }
 
-// No packet is whole, and this is dropped, if anything.
+// The result with no whole packet, and this drop, if any.
 fn no_packets(dropped: Option<Dropped>) -> TakenSegment
     ensures dropped { cause_at result.dropped ≡ dropped }
     ensures number { IsCauseNumber result.dropped }
@@ -175,7 +175,7 @@ fn number_of(dropped: Option<Dropped>) -> u8
     }
 }
 
-// The packet at the beginning of the memory, unless there is a fault of it.
+// The packet at the beginning of the memory, unless it has a fault.
 fn joined(count: usize, fault: Option<Dropped>) -> TakenSegment
     ensures dropped { cause_at result.dropped ≡ fault }
     ensures number { IsCauseNumber result.dropped }
@@ -192,7 +192,7 @@ fn joined(count: usize, fault: Option<Dropped>) -> TakenSegment
     }
 }
 
-// Puts octets into the memory after this many, and says how many are there then.
+// Appends octets to the first octets of the memory, which are this many, and returns how many there are then.
 pub(crate) fn add(count: usize, octets: &[u8], memory: &mut [u8]) -> usize
     requires room { count + length octets.now ≤ length memory.old }
     ensures joined { take result memory.new ≡ take count memory.old ++ octets.now }
@@ -205,8 +205,8 @@ pub(crate) fn add(count: usize, octets: &[u8], memory: &mut [u8]) -> usize
     end
 }
 
-/// Goes on to the packet after this part of the octets; begin with `{0, 0}`. Returns true, and the part is that packet;
-/// or false, with nothing written, if there is none.
+/// Moves to the packet after this part of the octets; begin with `{0, 0}`. Returns true, and the part is that
+/// packet; or returns false and writes nothing if there is none.
 #[tactic(auto, using(crate::proofs::Pieces::stands_at, crate::proofs::Pieces::none_at, crate::proofs::Pieces::none_past))]
 #[unsafe(no_mangle)]
 #[must_use]

@@ -18,8 +18,9 @@ use tc_frame::{
     check_if,
 };
 
-/// A telecommand frame's fields (CCSDS 232.0-B-4, 4.1) without its data. The kind is 0 for Type-AD, 1 for Type-BD and 2
-/// for Type-BC; the command is 0 for Unlock and 1 for Set V(R). For C it is `struct sedge_tc_frame`.
+/// A telecommand frame's fields (CCSDS 232.0-B-4, 4.1) without its data. The kind is 0 for Type-AD, 1 for
+/// Type-BD and 2 for Type-BC; the command is 0 for Unlock and 1 for Set V(R). For C it is `struct
+/// sedge_tc_frame`.
 #[repr(C)]
 #[derive(Clone, Copy)]
 pub struct CommandFrame {
@@ -41,10 +42,10 @@ pub struct CommandFrame {
     pub vr: u8,
 }
 
-/// Reads all of the octets as one frame, which ends with its FECF if `checked` is true, and writes where the data after
-/// the segment header are; a control frame has none, and the part is `{0, 0}`. The frame may be of any spacecraft and
-/// virtual channel: compare scid and vcid with your own before a receiver is given it. Returns 0, or the first of 1 to
-/// 9 of `sedge_tc_fault`.
+/// Reads all of the octets as one frame, which ends with its FECF if `checked` is true, and writes where the
+/// data after the segment header are; for a control frame, which has none, the part is `{0, 0}`. The frame
+/// may be of any spacecraft and virtual channel: compare scid and vcid with your own before you pass the
+/// frame to a receiver. Returns 0, or the first of 1 to 9 of `sedge_tc_fault`.
 #[unsafe(no_mangle)]
 #[must_use]
 pub extern "C" fn sedge_tc_decode(
@@ -65,9 +66,10 @@ pub extern "C" fn sedge_tc_decode(
     })
 }
 
-/// Writes the frame with these data (ignored for a control frame) to the beginning of `out`, with its FECF if `checked`
-/// is true, and its length in octets, 6 to 1,024, to `total`. Returns 0, or the first of `SEDGE_DAMAGED` (the kind, the
-/// segment flags or the command is out of its enum), `SEDGE_TC_FIELD_RANGE` and `SEDGE_TC_ROOM`.
+/// Writes the frame with these data (ignored for a control frame) to the beginning of `out`, with its FECF if
+/// `checked` is true, and its length in octets, 6 to 1,024, to `total`. Returns 0, or the first of
+/// `SEDGE_DAMAGED` (the kind, the segment flags or the command is not in its enumeration),
+/// `SEDGE_TC_FIELD_RANGE` and `SEDGE_TC_ROOM`.
 #[unsafe(no_mangle)]
 #[must_use]
 pub extern "C" fn sedge_tc_encode(
@@ -90,9 +92,9 @@ pub extern "C" fn sedge_tc_encode(
     }
 }
 
-/// Writes the length of the frame that begins with these octets, by its first 5 octets alone; for cutting a stream
-/// (4.1.2.7). Returns 0, or `SEDGE_TC_SHORT` for fewer than 5 octets, or `SEDGE_TC_LENGTH` if it declares fewer than 5,
-/// or with the FECF fewer than 7.
+/// Writes the length of the frame that begins with these octets, from its first 5 octets only; use it to cut
+/// a stream (4.1.2.7). Returns 0, or `SEDGE_TC_SHORT` for fewer than 5 octets, or `SEDGE_TC_LENGTH` if it
+/// declares fewer than 5, or with the FECF fewer than 7.
 #[unsafe(no_mangle)]
 #[must_use]
 pub extern "C" fn sedge_tc_declared(octets: &[u8], checked: bool, total: &mut usize) -> u8
@@ -109,13 +111,14 @@ pub extern "C" fn sedge_tc_declared(octets: &[u8], checked: bool, total: &mut us
     written!(declared, |count| *total = count)
 }
 
-/// Reads the frames that stand one after another in the octets, each as long as it declares (4.1.2.7), and writes a record
-/// of 12 octets of each to `out`, in order: the number of its octets, what `sedge_tc_decode` returns for it, and the scid,
-/// vcid, kind, n, flags, map, command and vr that it writes, or 0 for each where it refuses the frame. The number and the
-/// scid have two octets, the lower one first. The data of a Type-AD or a Type-BD frame begin 6 octets after its first.
-/// Stops where `out` has no room for a record, or where no whole frame follows: `sedge_tc_declared` says of the octets
-/// there whether their length is refused. Writes the number of octets of all these frames to `total`. Returns the number
-/// of frames.
+/// Reads the frames that follow one another in the octets, each as long as it declares (4.1.2.7), and writes
+/// a record of 12 octets for each to `out`, in order. A record contains the number of the frame's octets,
+/// what `sedge_tc_decode` returns for it, and the scid, vcid, kind, n, flags, map, command and vr that this
+/// call writes, or 0 for each if it refuses the frame. The number and the scid have two octets, the lower one
+/// first. The data of a Type-AD or a Type-BD frame begin 6 octets after its first. Stops when `out` has no
+/// room for a record, or when no whole frame follows. Call `sedge_tc_declared` with the octets there to find
+/// out whether their length is refused. Writes the number of octets of all these frames to `total`. Returns
+/// the number of frames.
 #[unsafe(no_mangle)]
 pub extern "C" fn sedge_tc_frames(
     octets: &[u8],
@@ -148,7 +151,7 @@ pub extern "C" fn sedge_tc_frames(
     frames
 }
 
-// How many octets the frame has that octets begin with, and 0 where they begin with no whole one.
+// The length of the frame at the beginning of the octets, and 0 if no whole frame is there.
 #[tactic(auto, using(crate::proofs::Pieces::few_octets))]
 fn whole_len(octets: &[u8], checked: bool) -> usize
     ensures count { result ≡ whole_len checked octets.now }
@@ -162,7 +165,7 @@ fn whole_len(octets: &[u8], checked: bool) -> usize
     0
 }
 
-// What is written of a frame.
+// The record that is written for a frame.
 fn record_of(octets: &[u8], checked: bool) -> [u8; 12]
     requires { length octets.now ≤ 1024 }
     ensures { result ≡ record_of checked octets.now }
@@ -264,7 +267,7 @@ fn command_from<'a>(fields: &CommandFrame) -> Result<Body<'a>, u8>
     }
 }
 
-// ---- from a frame to fields, and to where its data stand
+// ---- from a frame to fields, and to the place of its data
 
 fn fields_from(frame: &TcFrame) -> CommandFrame
     ensures { result ≡ fields_of (frame_view frame.now) }

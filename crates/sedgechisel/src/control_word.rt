@@ -7,9 +7,9 @@ ghost use Rattle.sedgechisel.specs.TelemetryFrames.{word_read, word_written};
 use crate::numbers::WRONG_COUNT;
 use clcw::Clcw;
 
-/// Reads four octets as a control word, of whichever virtual channel: compare vcid with your own before you use its
-/// value or its flags (`sedge_fop_clcw` does so itself). Returns 0, or the first of 1 to 4 of `sedge_clcw_fault`, or
-/// `SEDGE_WRONG_COUNT` if the octets are not four.
+/// Reads four octets as a CLCW of any virtual channel: compare its vcid with your own before you use its
+/// value or its flags (`sedge_fop_clcw` does so itself). Returns 0, or the first of 1 to 4 of
+/// `sedge_clcw_fault`, or `SEDGE_WRONG_COUNT` if the octets are not four.
 #[unsafe(no_mangle)]
 #[must_use]
 pub extern "C" fn sedge_clcw_decode(octets: &[u8], word: &mut Clcw) -> u8
@@ -22,8 +22,8 @@ pub extern "C" fn sedge_clcw_decode(octets: &[u8], word: &mut Clcw) -> u8
     written!(clcw::decode(four), |found| *word = found)
 }
 
-/// Writes a control word as four octets. Returns 0, or `SEDGE_CLCW_RANGE`, or `SEDGE_WRONG_COUNT` if the room is not
-/// four octets.
+/// Writes a CLCW as four octets. Returns 0, or `SEDGE_CLCW_RANGE`, or `SEDGE_WRONG_COUNT` if the buffer is
+/// not four octets long.
 #[unsafe(no_mangle)]
 #[must_use]
 pub extern "C" fn sedge_clcw_encode(word: &Clcw, out: &mut [u8]) -> u8

@@ -12,20 +12,21 @@ use crate::part::Part;
 use map_service::{Limits, group_len, segment_count};
 use tc_frame::SegmentFlags;
 
-/// What a sender cuts: the most octets of data in a segment, at least 1, the most octets of a packet, and whether a
-/// segment may hold several packets, 0 or 1. For C it is `struct sedge_limits`.
+/// The limits of a sender that cuts packets: the maximum length of a segment's data, at least 1, the maximum
+/// length of a packet, and whether a segment may hold several packets, 0 or 1. For C it is `struct
+/// sedge_limits`.
 #[repr(C)]
 #[derive(Clone, Copy)]
 pub struct CutLimits {
-    /// The most octets of data in a segment, at least 1.
+    /// The maximum length of a segment's data in octets, at least 1.
     pub part: u32,
-    /// The most octets of a packet.
+    /// The maximum length of a packet in octets.
     pub max_packet: u32,
     /// Whether packets that have at most part octets together go into one segment, 0 or 1.
     pub blocking: u8,
 }
 
-/// Where a segment's data stand among the octets, and its flags.
+/// Where a segment's data are in the octets, and its flags.
 #[derive(Clone, Copy)]
 struct Place {
     flags: SegmentFlags,
@@ -33,8 +34,8 @@ struct Place {
     count: usize,
 }
 
-/// Writes the number of segments that a packet is cut into, or with blocking one or more packets, one after another.
-/// Returns 0, or `SEDGE_DAMAGED`, or the first of `sedge_map_fault`.
+/// Writes the number of segments into which a packet is cut, or with blocking one or more packets, one after
+/// another. Returns 0, or `SEDGE_DAMAGED`, or the first of `sedge_map_fault`.
 #[unsafe(no_mangle)]
 #[must_use]
 pub extern "C" fn sedge_map_count(octets: &[u8], limits: &CutLimits, segments: &mut usize) -> u8
@@ -46,9 +47,10 @@ pub extern "C" fn sedge_map_count(octets: &[u8], limits: &CutLimits, segments: &
     }
 }
 
-/// Writes segment `k` of these, counted from 0: its flags of `sedge_segment_flags`, and where its data are in the
-/// octets. Each call goes through the packets from the first, so with blocking all segments of n packets take time in
-/// proportion to n * n. Returns what `sedge_map_count` does, or `SEDGE_ABSENT` if there are not that many.
+/// Writes segment `k` of these, counted from 0: its flags, of `sedge_segment_flags`, and where its data are
+/// in the octets. Each call starts from the first packet, so with blocking the time for all segments of n
+/// packets grows as n * n. Returns what `sedge_map_count` does, or `SEDGE_ABSENT` if there are fewer
+/// segments.
 #[unsafe(no_mangle)]
 #[must_use]
 pub extern "C" fn sedge_map_segment(
@@ -124,7 +126,7 @@ fn place_in(octets: &[u8], part: usize, k: usize) -> Option<Place>
     None
 }
 
-// Part k of the packets that have this many octets from a place on, where there is one.
+// Part k of the packets that have this many octets from a place on, if there is one.
 #[tactic(auto, using(crate::proofs::Pieces::part_stands))]
 fn place_of(octets: &[u8], from: usize, len: usize, part: usize, k: usize) -> Place
     requires some_octet { 1 ≤ len }

@@ -20,21 +20,21 @@ use fields::{described, kept};
 #[repr(C)]
 #[derive(Clone, Copy)]
 pub struct LogRecord {
-    /// A bit for each of the 64 numbers up to last, the lowest for last: 1 if it is known that the command was
-    /// executed, whole.
+    /// A bit for each of the 64 numbers up to last, the lowest for last: 1 if it is known that the command
+    /// was executed, whole.
     pub known: u64,
     /// How often the board has started.
     pub boot: u32,
     /// The number of the last command that was executed or passed over. Numbers begin at 1.
     pub last: u32,
-    /// The running check of all commands that were taken since the record was new or was brought.
+    /// The running check of all commands that were taken since the record was new or was brought by an order.
     pub history: u32,
     /// Whether the next command is begun, 0 or 1.
     pub begun: u8,
 }
 
-/// The state of a board's commands: its record, the mark of its loss if the record is lost, and how far it is: 1 for
-/// Lost to 8 for Ordered, as `command_log::Stage` has them. For C it is `struct sedge_log`.
+/// The state of a board's commands: its record, the mark of its loss if the record is lost, and its stage,
+/// from 1 for Lost to 8 for Ordered in the order of `command_log::Stage`. For C it is `struct sedge_log`.
 #[repr(C)]
 #[derive(Clone, Copy)]
 pub struct KeptLog {
@@ -46,9 +46,9 @@ pub struct KeptLog {
     pub stage: u8,
 }
 
-/// Starts with the octets at the two places of the memory that survives restarts, 50 each. A place whose octets are not
-/// 50, or do not spell a record, has none. Give another mark at each start, from a clock or at random: if neither place
-/// has a record, it is the mark of this loss.
+/// Starts with the octets at the two places of the memory that survives restarts, 50 each. A place with
+/// another number of octets, or with octets that do not form a valid record, has no record. Pass another mark
+/// at each start, from a clock or at random: if neither place has a record, it is the mark of this loss.
 #[unsafe(no_mangle)]
 pub extern "C" fn sedge_log_start(log: &mut KeptLog, first: &[u8], second: &[u8], mark: u32)
     ensures log { log.new ≡ log_of (start (copy_at first.now) (copy_at second.now) mark) }
@@ -66,10 +66,11 @@ fn copy_in(octets: &[u8]) -> Option<Record>
     }
 }
 
-/// Returns what the program does next, of `sedge_log_action`: it does this whole, and calls `sedge_log_done`, before it
-/// calls this again. For a write, `out` gets the 50 octets of the place; otherwise it stays as it is. `number` gets the
-/// number of the command to be executed, or 0 for any other action. Or returns the first of `SEDGE_WRONG_COUNT`, if the
-/// room is not 50 octets, and `SEDGE_DAMAGED`, with nothing written.
+/// Returns the program's next action, of `sedge_log_action`. The program completes the action and calls
+/// `sedge_log_done` before it calls this again. For a write, `out` receives the 50 octets of the place;
+/// otherwise it does not change. `number` receives the number of the command to be executed, or 0 for any
+/// other action. Or returns the first of `SEDGE_WRONG_COUNT`, if the buffer is not 50 octets long, and
+/// `SEDGE_DAMAGED`, with nothing written.
 #[unsafe(no_mangle)]
 #[must_use]
 pub extern "C" fn sedge_log_next(log: &KeptLog, out: &mut [u8], number: &mut u32) -> u8
@@ -113,9 +114,9 @@ fn number_in(action: &Action) -> u32
     }
 }
 
-/// The action that `sedge_log_next` returned, with its number, was done whole. Returns 0; or it changes nothing and
-/// returns the first of `SEDGE_DAMAGED` and `SEDGE_ABSENT`, if the action or its number is not what `sedge_log_next`
-/// returns.
+/// Records that the action that `sedge_log_next` returned, with its number, is complete. Returns 0; or it
+/// changes nothing and returns the first of `SEDGE_DAMAGED` and `SEDGE_ABSENT`, if the action or its number
+/// is not what `sedge_log_next` returns.
 #[unsafe(no_mangle)]
 #[must_use]
 pub extern "C" fn sedge_log_done(log: &mut KeptLog, action: u8, number: u32) -> u8
@@ -133,11 +134,11 @@ pub extern "C" fn sedge_log_done(log: &mut KeptLog, action: u8, number: u32) -> 
     0
 }
 
-/// Takes the octets of a packet that arrived if it is the next command, and writes where the mission's octets are in
-/// them: keep these until the command was executed, after `sedge_log_next` has returned `SEDGE_LOG_EXECUTE` with its
-/// number. Returns 0; or it changes and writes nothing, the packet is dropped, and it returns `SEDGE_DAMAGED` or the
-/// first of 1 to 7 of `sedge_log_fault`: 1 Layout, then 2 Check, then 3 Starting, 4 Busy or 5 Lost, then 6 Behind or 7
-/// Ahead.
+/// Takes the octets of a packet that arrived if it is the next command, and writes where the mission's octets
+/// are in them. Keep these until the command was executed, after `sedge_log_next` has returned
+/// `SEDGE_LOG_EXECUTE` with its number. Returns 0; or it changes and writes nothing, the packet is dropped,
+/// and it returns `SEDGE_DAMAGED` or the first of 1 to 7 of `sedge_log_fault`: 1 Layout, then 2 Check, then 3
+/// Starting, 4 Busy or 5 Lost, then 6 Behind or 7 Ahead.
 #[unsafe(no_mangle)]
 #[must_use]
 pub extern "C" fn sedge_log_offer(log: &mut KeptLog, octets: &[u8], content: &mut Part) -> u8
@@ -159,11 +160,11 @@ pub extern "C" fn sedge_log_offer(log: &mut KeptLog, octets: &[u8], content: &mu
     0
 }
 
-/// Takes the octets of an order that arrived: the next action is then `SEDGE_LOG_RESTART`; or the board that has lost
-/// its record continues with the one that the order brings, if the order has the mark of this loss. Returns 0; or it
-/// changes nothing, the packet is dropped, and it returns `SEDGE_DAMAGED`, or the first of 1 to 5 of `sedge_log_fault`,
-/// or 8 to 10 of `sedge_log_fault`: 1 Layout, then 2 Check; of a restart 3 Starting, 4 Busy or 5 Lost, then 8
-/// OtherBoot; of a record 9 NotLost, then 10 OtherMark.
+/// Takes the octets of an order that arrived: the next action is then `SEDGE_LOG_RESTART`; or a board that
+/// has lost its record continues with the record that the order brings, if the order has the mark of this
+/// loss. Returns 0; or it changes nothing, the packet is dropped, and it returns `SEDGE_DAMAGED`, or the
+/// first of 1 to 5 of `sedge_log_fault`, or 8 to 10 of `sedge_log_fault`: 1 Layout, then 2 Check; of a
+/// restart 3 Starting, 4 Busy or 5 Lost, then 8 OtherBoot; of a record 9 NotLost, then 10 OtherMark.
 #[unsafe(no_mangle)]
 #[must_use]
 pub extern "C" fn sedge_log_obey(log: &mut KeptLog, octets: &[u8]) -> u8
@@ -179,8 +180,9 @@ pub extern "C" fn sedge_log_obey(log: &mut KeptLog, octets: &[u8]) -> u8
     0
 }
 
-/// Writes the status for telemetry, 27 octets, with how many commands wait on board to be offered, at most 255. Returns
-/// 0, or the first of `SEDGE_WRONG_COUNT`, if the room is not 27 octets, and `SEDGE_DAMAGED`.
+/// Writes the status for telemetry, 27 octets, with the number of commands that wait on board to be offered,
+/// at most 255. Returns 0, or the first of `SEDGE_WRONG_COUNT`, if the buffer is not 27 octets long, and
+/// `SEDGE_DAMAGED`.
 #[unsafe(no_mangle)]
 #[must_use]
 pub extern "C" fn sedge_log_status(log: &KeptLog, waiting: usize, out: &mut [u8]) -> u8

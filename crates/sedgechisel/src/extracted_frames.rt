@@ -18,15 +18,17 @@ use crate::telemetry_extractor::{
 use crate::telemetry_frame::{TelemetryFrame, fields_from, pointer_from};
 use tm_link::{Ending, Pointer, ending_with, gap_before, is_idle_with, is_lost};
 
-/// Takes the frames of this length that stand one after another in the octets, each as `sedge_tm_decode` and then
-/// `sedge_tm_extractor_frame` take it, and writes a record of 19 octets of each to `out`, in order: the number of octets
-/// of its packets, of four octets, the lowest one first; the first fault of these two calls, or 0; then first and lost,
-/// and dropped, which is 1 if a packet that was begun is dropped and is not idle, or 0; then the scid and the pointer, of
-/// two octets, the lower one first, the vcid, mc_count, vc_count and ocf, or 0 for each where it is no frame. The packets
-/// of all these frames go to `packets` one after another: `sedge_map_packet` finds where each begins. Stops where `out`
-/// has no room for a record, or `packets` for as many octets as the memory and a frame have, or where no whole frame
-/// follows; a length of 0 is that of no frame. Writes the number of octets of all these packets to `total`. Returns the
-/// number of frames.
+/// Takes the frames of this length that follow one another in the octets, each as `sedge_tm_decode` and then
+/// `sedge_tm_extractor_frame` take it. Writes a record of 19 octets for each frame to `out`, in order. A
+/// record contains the number of octets of the frame's packets (four octets, the lowest one first), and the
+/// first fault of these two calls, or 0. Then come first, lost and dropped; dropped is 1 if a begun packet
+/// that is not idle is dropped, and otherwise 0. The record ends with the frame's fields: the scid and the
+/// pointer (two octets each, the lower one first), the vcid, mc_count, vc_count and ocf. These fields are 0 if
+/// the octets do not form a valid frame. Writes the packets of all these frames to `packets`, one after
+/// another: `sedge_map_packet` finds where each begins. Stops when `out` has no room for a record, or when
+/// `packets` has no room for as many octets as the memory and a frame have together. It also stops when no
+/// whole frame follows, and takes no frame if the length is 0. Writes the number of octets of all these
+/// packets to `total`. Returns the number of frames.
 #[unsafe(no_mangle)]
 pub extern "C" fn sedge_tm_extractor_frames(
     extractor: &mut KeptExtractor,
@@ -84,15 +86,15 @@ pub extern "C" fn sedge_tm_extractor_frames(
     frames
 }
 
-// Whether no frame is taken where this much is left of the place for packets.
+// Whether too little is left of the octets, or of the buffer for packets, to take another frame.
 fn is_end(total: usize, room: usize, left: usize, octets: &[u8]) -> bool
     ensures { result ≡ is_end total room left octets.now }
 {
     total == 0 || octets.len() < total || left < room || left - room < total
 }
 
-// Takes the frame that the octets are, if they are one: its packets go after this many octets. Answers its record, and
-// where its packets end.
+// Takes the frame that the octets form, if they form one, and puts its packets after this many octets. Returns
+// the frame's record, and where its packets end.
 fn take_one(
     extractor: &mut KeptExtractor,
     octets: &[u8],
@@ -125,7 +127,7 @@ fn take_one(
     }
 }
 
-/// What comes of a frame.
+/// What becomes of a frame.
 #[derive(Clone, Copy)]
 struct Came {
     fault: u8,
@@ -147,7 +149,7 @@ fn refused(fault: u8) -> Came
     }
 }
 
-// Takes a frame: its packets go after this many octets.
+// Takes a frame, and puts its packets after this many octets.
 fn take_frame(
     extractor: &mut KeptExtractor,
     frame: &TelemetryFrame,
@@ -249,7 +251,7 @@ fn begins_idle(part: &[u8], more: &[u8]) -> bool
     2 <= part.len() + more.len() && is_idle_with(part, more)
 }
 
-// Puts the packets that are taken after this many octets, and says where they end.
+// Puts the packets that are taken after this many octets, and returns where they end.
 fn put_packets(
     taken: &TakenFrame,
     payload: &[u8],
@@ -270,7 +272,7 @@ fn put_packets(
     put_each(payload, taken.packets.from, packets, end)
 }
 
-// Puts the packets from a place of a frame's data on after this many octets, and says where they end.
+// Puts the packets of a frame's data, from a place on, after this many octets, and returns where they end.
 fn put_each(payload: &[u8], from: usize, packets: &mut [u8], at: usize) -> usize
     requires from { from ≤ length payload.now }
     requires room { at + length (handed_from from payload.now) ≤ length packets.old }

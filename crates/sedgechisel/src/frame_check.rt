@@ -4,7 +4,7 @@ ghost use Rattle.std.specs.Prelude.{◌≡◌, ◌≤◌, ◌-◌, ◌++◌, ◌
 ghost use Rattle.byteorder.specs.Endian.{big_bytes};
 ghost use Rattle.octets.specs.Check.{check_of, HoldsCheck};
 
-/// The check of the octets.
+/// Returns the check of the octets.
 #[unsafe(no_mangle)]
 pub extern "C" fn sedge_check(octets: &[u8]) -> u16
     ensures { result ≡ check_of octets.now }
@@ -12,8 +12,8 @@ pub extern "C" fn sedge_check(octets: &[u8]) -> u16
     octets::check(octets)
 }
 
-/// Sets the last two octets to the check of those before them, and returns true; for fewer than two octets it returns
-/// false and writes nothing.
+/// Sets the last two octets to the check of those before them, and returns true; for fewer than two octets,
+/// returns false and writes nothing.
 #[unsafe(no_mangle)]
 #[must_use]
 pub extern "C" fn sedge_check_append(octets: &mut [u8]) -> bool
@@ -29,8 +29,8 @@ pub extern "C" fn sedge_check_append(octets: &mut [u8]) -> bool
     true
 }
 
-/// Whether the last two octets are the check of those before them; false for fewer than two octets (232.0-B-4,
-/// 4.1.4.3).
+/// Returns whether the last two octets are the check of those before them; false for fewer than two octets
+/// (232.0-B-4, 4.1.4.3).
 #[unsafe(no_mangle)]
 #[must_use]
 pub extern "C" fn sedge_check_holds(octets: &[u8]) -> bool

@@ -1,8 +1,8 @@
-//! Both ends of the link for programs in C: a static library that allocates nothing, and calls nothing of
-//! another library but `memcpy`, `memmove` and `memset`.
+//! Both ends of the link for programs in C: a static library that allocates nothing, and calls only `memcpy`,
+//! `memmove` and `memset` of other libraries.
 #![tactic(auto)]
 
-// What a crate's call gives is written, and the answer is 0; or it is the number of the call's fault.
+// Writes what a crate's call returns, and returns 0; or returns the number of the call's fault.
 macro_rules! written {
     ($call:expr, |$found:pat_param| $write:expr) => {
         match $call {
@@ -15,8 +15,8 @@ macro_rules! written {
     };
 }
 
-// What a call makes of the receiver or the sender that the fields describe, and its answer; the fields describe it
-// again afterwards.
+// Runs a call on the receiver or the sender that the fields describe, and returns its answer; the fields
+// describe it again afterwards.
 macro_rules! step {
     ($fields:ident, |$machine:ident| $call:expr) => {
         match described($fields) {

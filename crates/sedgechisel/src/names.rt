@@ -1,4 +1,4 @@
-// The names of numbers, as the crates give them; "?" for a number that is none.
+// The names of numbers, as the crates define them; "?" for any other number.
 
 ghost use Rattle.std.specs.Prelude.{◌≡◌};
 ghost use Rattle.c_words.specs.Words.{text_of, sentence_of};
@@ -64,11 +64,12 @@ fn alert_of(number: u8) -> Option<Alert>
     }
 }
 
-/// Whether a `sedge_alert` says that a condition of the link is broken: true for `SEDGE_ALERT_LOCKOUT`,
-/// `SEDGE_ALERT_NNR`, `SEDGE_ALERT_CLCW` and `SEDGE_ALERT_SYNCH`. In a confirmed session that was begun by check, Unlock
-/// or Set V(R) none of these comes while the conditions hold: there was a restart on board, a link that reorders or
-/// repeats frames, or a second station. Nothing is known of what is on board then: begin anew, as after a reset. False
-/// for the others, after which the next session begins where this one got to, and for a number that is no alert.
+/// Returns whether a `sedge_alert` shows a broken condition of the link: true for `SEDGE_ALERT_LOCKOUT`,
+/// `SEDGE_ALERT_NNR`, `SEDGE_ALERT_CLCW` and `SEDGE_ALERT_SYNCH`. In a confirmed session that was begun by
+/// check, Unlock or Set V(R), none of these alerts occurs while the conditions hold: there was a restart on
+/// board, a link that reorders or repeats frames, or a second station. Nothing is then known of what is on
+/// board: begin again, as after a reset. Returns false for the other alerts, after which the next session
+/// begins where this one got to, and for a number that is not an alert.
 #[unsafe(no_mangle)]
 pub extern "C" fn sedge_alert_shows_broken_condition(alert: u8) -> bool
     ensures { result ≡ broken_if (alert_at alert) }
@@ -79,7 +80,8 @@ pub extern "C" fn sedge_alert_shows_broken_condition(alert: u8) -> bool
     }
 }
 
-/// What to look for after a `sedge_alert`, and the way on, in words for an operator; "?" for a number that is none.
+/// What to look for after a `sedge_alert`, and how to recover, in words for an operator; "?" for any other
+/// number.
 #[unsafe(no_mangle)]
 pub extern "C" fn sedge_alert_advice(alert: u8) -> Advice
     ensures { result.text ≡ sentence_of (advice_if (alert_at alert)) }

@@ -1,10 +1,10 @@
-// The numbers of the answers that no crate below gives.
+// The numbers of the answers that no lower crate returns.
 
-/// A struct of the caller's has a value that no such value has.
+/// A struct of the caller has a value that is not valid in it.
 pub(crate) const DAMAGED: u8 = 255;
 
-/// The octets are not as many as the call wants.
+/// The number of octets is not the one that the call requires.
 pub(crate) const WRONG_COUNT: u8 = 254;
 
-/// There is none of what is asked for.
+/// What is requested does not exist.
 pub(crate) const ABSENT: u8 = 253;

@@ -12,12 +12,12 @@ use crate::part::Part;
 use octets::Wire;
 use space_packet::{Packet, PacketFault, PacketKind, Packets, gap_between};
 
-/// A space packet's fields (CCSDS 133.0-B-2, 4.1) without its data. The kind is 0 for telemetry and 1 for telecommand;
-/// the secondary header flag is 0 or 1. For C it is `struct sedge_packet`.
+/// A space packet's fields (CCSDS 133.0-B-2, 4.1) without its data. The kind is 0 for telemetry and 1 for
+/// telecommand; the secondary header flag is 0 or 1. For C it is `struct sedge_packet`.
 #[repr(C)]
 #[derive(Clone, Copy)]
 pub struct PacketFields {
-    /// The application process identifier, below 2,048; 2,047 is that of idle packets (4.1.3.3.4).
+    /// The application process identifier, below 2,048; idle packets have 2,047 (4.1.3.3.4).
     pub apid: u16,
     /// The sequence count or the packet's name, below 16,384 (4.1.3.4.3).
     pub count: u16,
@@ -29,9 +29,9 @@ pub struct PacketFields {
     pub flags: u8,
 }
 
-/// Reads the packet at the beginning of the octets, and writes where its data field is; the packet ends where that
-/// ends, and octets after it are ignored. Returns 0, or the first of 1 to 3 of `sedge_packet_fault`
-/// (`SEDGE_PACKET_TRUNCATED` for fewer octets than declared comes last).
+/// Reads the packet at the beginning of the octets, and writes where its data field is. The packet ends where
+/// its data field ends, and octets after it are ignored. Returns 0, or the first of 1 to 3 of
+/// `sedge_packet_fault` (`SEDGE_PACKET_TRUNCATED` for fewer octets than declared comes last).
 #[unsafe(no_mangle)]
 #[must_use]
 pub extern "C" fn sedge_packet_decode(
@@ -54,9 +54,9 @@ pub extern "C" fn sedge_packet_decode(
     })
 }
 
-/// Writes the packet with this data field to the beginning of `out`, and its length in octets, 6 more than its data, to
-/// `total`. Returns 0, or the first of `SEDGE_DAMAGED` (the kind is out of its enum, or the secondary header flag
-/// above 1), `SEDGE_PACKET_FIELD_RANGE` and `SEDGE_PACKET_ROOM`.
+/// Writes the packet with this data field to the beginning of `out`, and its length in octets, 6 more than
+/// its data, to `total`. Returns 0, or the first of `SEDGE_DAMAGED` (the kind is not in its enumeration, or
+/// the secondary header flag is above 1), `SEDGE_PACKET_FIELD_RANGE` and `SEDGE_PACKET_ROOM`.
 #[unsafe(no_mangle)]
 #[must_use]
 pub extern "C" fn sedge_packet_encode(
@@ -77,9 +77,9 @@ pub extern "C" fn sedge_packet_encode(
     }
 }
 
-/// Writes the length of the packet that begins with these octets, by its first 6 octets alone; for cutting a stream
-/// (4.1.3.5). Returns 0, or `SEDGE_PACKET_TRUNCATED` for fewer than 6 octets, or `SEDGE_PACKET_VERSION`, or
-/// `SEDGE_PACKET_IDLE_WITH_SECONDARY`.
+/// Writes the length of the packet that begins with these octets, from its first 6 octets only; use it to cut
+/// a stream (4.1.3.5). Returns 0, or `SEDGE_PACKET_TRUNCATED` for fewer than 6 octets, or
+/// `SEDGE_PACKET_VERSION`, or `SEDGE_PACKET_IDLE_WITH_SECONDARY`.
 #[unsafe(no_mangle)]
 #[must_use]
 pub extern "C" fn sedge_packet_declared(octets: &[u8], total: &mut usize) -> u8
@@ -91,16 +91,16 @@ pub extern "C" fn sedge_packet_declared(octets: &[u8], total: &mut usize) -> u8
     written!(Packets::extent(octets), |count| *total = count)
 }
 
-/// The last sequence count that was seen of each application process (CCSDS 133.0-B-2, 4.1.3.4.3). For C it is `struct
-/// sedge_gap_check`.
+/// The last sequence count that was seen of each application process (CCSDS 133.0-B-2, 4.1.3.4.3). For C it
+/// is `struct sedge_gap_check`.
 #[repr(C)]
 #[derive(Clone, Copy)]
 pub struct KeptGaps {
-    /// By APID; above 16,383 where no packet of it was seen.
+    /// By APID; above 16,383 if no packet of the APID was seen.
     pub last: [u16; 2048],
 }
 
-/// Begins a check of sequence counts, which has seen no packet.
+/// Begins a check of sequence counts that has seen no packet.
 #[unsafe(no_mangle)]
 pub extern "C" fn sedge_gap_check_open(check: &mut KeptGaps)
     ensures { check.new ≡ new_gaps }
@@ -108,9 +108,10 @@ pub extern "C" fn sedge_gap_check_open(check: &mut KeptGaps)
     check.last = [65535; 2048];
 }
 
-/// Sees a packet of this APID with this count, as `sedge_packet_decode` gives them, and writes how many are missing
-/// before it to `missing`: (count - last - 1) modulo 16,384. Returns 0, or `SEDGE_ABSENT` for the first packet of the
-/// APID, which is seen; or `SEDGE_PACKET_FIELD_RANGE` if `apid` is not below 2,048 or `count` not below 16,384.
+/// Records a packet of this APID with this count, as `sedge_packet_decode` writes them, and writes the number
+/// of packets missing before it to `missing`: (count - last - 1) modulo 16,384. Returns 0, or `SEDGE_ABSENT`
+/// for the first packet of the APID, which is recorded too; or `SEDGE_PACKET_FIELD_RANGE` if `apid` is not
+/// below 2,048 or `count` not below 16,384.
 #[unsafe(no_mangle)]
 #[must_use]
 pub extern "C" fn sedge_gap_check_see(

@@ -1,6 +1,6 @@
-// Where data stand in octets.
+// Where data are in octets.
 
-/// So many octets from a place on, which is counted from 0.
+/// This many octets from a place on, which is counted from 0.
 #[repr(C)]
 #[derive(Clone, Copy)]
 pub struct Part {

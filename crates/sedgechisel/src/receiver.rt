@@ -15,7 +15,7 @@ use cop1::{Farm, FarmFields, FarmMode, Verdict};
 #[repr(C)]
 #[derive(Clone, Copy)]
 pub struct Receiver {
-    /// Of both windows together; each is half of it.
+    /// The width of both windows together; each is half of it.
     pub width: u8,
     /// V(R), the number of the next frame to be accepted.
     pub vr: u8,
@@ -27,8 +27,8 @@ pub struct Receiver {
     pub farm_b: u8,
 }
 
-/// Begins a receiver in its state Open, with all flags 0 and FARM-B 0, which expects the number `vr`. Returns 0, or
-/// `SEDGE_COP_WIDTH`.
+/// Begins a receiver in state Open, with all flags 0 and FARM-B 0, that expects the number `vr`. Returns 0,
+/// or `SEDGE_COP_WIDTH`.
 #[unsafe(no_mangle)]
 #[must_use]
 pub extern "C" fn sedge_farm_open(receiver: &mut Receiver, width: u8, vr: u8) -> u8
@@ -37,8 +37,9 @@ pub extern "C" fn sedge_farm_open(receiver: &mut Receiver, width: u8, vr: u8) ->
     written!(Farm::new(width, vr), |farm| *receiver = kept(&farm))
 }
 
-/// A Type-AD frame with the number `n` has arrived; `buffer_free` says whether there is room for its data. Returns its
-/// verdict, of `sedge_verdict`: if it is `SEDGE_ACCEPTED`, hand the data on. Or returns `SEDGE_DAMAGED`.
+/// Judges a Type-AD frame with the number `n`; `buffer_free` states whether there is room for its data.
+/// Returns its verdict, of `sedge_verdict`: if it is `SEDGE_ACCEPTED`, pass on the data. Or returns
+/// `SEDGE_DAMAGED`.
 #[unsafe(no_mangle)]
 #[must_use]
 pub extern "C" fn sedge_farm_ad(receiver: &mut Receiver, n: u8, buffer_free: bool) -> u8
@@ -69,7 +70,7 @@ pub extern "C" fn sedge_farm_ad(receiver: &mut Receiver, n: u8, buffer_free: boo
     }
 }
 
-/// A Type-BD frame has arrived; hand its data on in every state. Returns 0, or `SEDGE_DAMAGED`.
+/// Counts a Type-BD frame; pass on its data in every state. Returns 0, or `SEDGE_DAMAGED`.
 #[unsafe(no_mangle)]
 pub extern "C" fn sedge_farm_bd(receiver: &mut Receiver) -> u8
     ensures { IsStepped BdArrives receiver.old receiver.new result }
@@ -77,7 +78,7 @@ pub extern "C" fn sedge_farm_bd(receiver: &mut Receiver) -> u8
     step!(receiver, |farm| farm.bd(), 0)
 }
 
-/// The control command Unlock has arrived. Returns 0, or `SEDGE_DAMAGED`.
+/// Executes the control command Unlock. Returns 0, or `SEDGE_DAMAGED`.
 #[unsafe(no_mangle)]
 pub extern "C" fn sedge_farm_unlock(receiver: &mut Receiver) -> u8
     ensures { IsStepped UnlockArrives receiver.old receiver.new result }
@@ -85,7 +86,8 @@ pub extern "C" fn sedge_farm_unlock(receiver: &mut Receiver) -> u8
     step!(receiver, |farm| farm.unlock(), 0)
 }
 
-/// The control command Set V(R) has arrived; in Lockout it is counted, and V(R) stays. Returns 0, or `SEDGE_DAMAGED`.
+/// Executes the control command Set V(R); in Lockout it is only counted, and V(R) does not change. Returns 0,
+/// or `SEDGE_DAMAGED`.
 #[unsafe(no_mangle)]
 pub extern "C" fn sedge_farm_set_vr(receiver: &mut Receiver, vr: u8) -> u8
     ensures { IsStepped (SetVrArrives vr) receiver.old receiver.new result }
@@ -93,7 +95,7 @@ pub extern "C" fn sedge_farm_set_vr(receiver: &mut Receiver, vr: u8) -> u8
     step!(receiver, |farm| farm.set_vr(vr), 0)
 }
 
-/// There is room on board again. Returns 0, or `SEDGE_DAMAGED`.
+/// Records that there is room on board again. Returns 0, or `SEDGE_DAMAGED`.
 #[unsafe(no_mangle)]
 pub extern "C" fn sedge_farm_released(receiver: &mut Receiver) -> u8
     ensures { IsStepped BufferReleased receiver.old receiver.new result }
@@ -101,9 +103,9 @@ pub extern "C" fn sedge_farm_released(receiver: &mut Receiver) -> u8
     step!(receiver, |farm| farm.released(), 0)
 }
 
-/// Makes the control word (232.0-B-4, 4.2) that reports on the receiver as it is, for the virtual channel `vcid`; the
-/// flags for the radio channel and bit lock are 0. Returns 0, or `SEDGE_DAMAGED`, or `SEDGE_CLCW_RANGE` if `vcid` is
-/// not below 64.
+/// Writes the CLCW (232.0-B-4, 4.2) that reports the receiver's present state, for the virtual channel
+/// `vcid`; the flags for the radio channel and bit lock are 0. Returns 0, or `SEDGE_DAMAGED`, or
+/// `SEDGE_CLCW_RANGE` if `vcid` is not below 64.
 #[unsafe(no_mangle)]
 #[must_use]
 pub extern "C" fn sedge_farm_control_word(receiver: &Receiver, vcid: u8, word: &mut Clcw) -> u8

@@ -16,9 +16,10 @@ use cop1::{Alert, Sender, SenderNext};
 use fields::{described, kept};
 use tc_frame::Command;
 
-/// A sender (CCSDS 232.1-B-2, 5.1): its numbers as `cop1::SenderFields` has them. The ticks are 0 where the timer is
-/// off; the state is 1 for S1 to 6 for S6; the control command is 0 for none, 1 for Unlock that is due and 2 for Unlock
-/// that is sent, 3 and 4 for Set V(R) with the number `vr`. For C it is `struct sedge_fop`.
+/// A sender (CCSDS 232.1-B-2, 5.1): the numbers of `cop1::SenderFields`. The ticks are 0 if the timer is off.
+/// The state is 1 for S1 to 6 for S6. The control command is 0 for none, 1 for an Unlock that is due and 2
+/// for an Unlock that was sent, 3 and 4 likewise for Set V(R) with the number `vr`. For C it is `struct
+/// sedge_fop`.
 #[repr(C)]
 #[derive(Clone, Copy)]
 pub struct KeptSender {
@@ -26,7 +27,7 @@ pub struct KeptSender {
     pub timer: u16,
     /// The ticks that are left while the timer runs, and 0 while it is off.
     pub ticks: u16,
-    /// Half the receiver's window width, 1 to 127: the most units sent and not acknowledged.
+    /// Half the receiver's window width, 1 to 127: the maximum number of units sent and not acknowledged.
     pub room: u8,
     /// Of `sedge_fop_state`.
     pub state: u8,
@@ -38,7 +39,7 @@ pub struct KeptSender {
     pub waiting: u8,
     /// The number of units sent and not acknowledged, at most room.
     pub sent: u8,
-    /// The number of these, the last ones, that are due to be sent again.
+    /// The number of these, the last ones, that are due to be retransmitted.
     pub due: u8,
     /// The window K, 1 to room.
     pub window: u8,
@@ -52,9 +53,10 @@ pub struct KeptSender {
     pub vr: u8,
 }
 
-/// Begins a sender in its state S6 with V(S) and NN(R) 0, to a receiver of this window width, with the window K, the
-/// transmission limit and the timer's value in ticks. Returns 0, or the first of `SEDGE_COP_WIDTH` (not even, 2 to
-/// 254), `SEDGE_COP_WINDOW` (not 1 to half the width), `SEDGE_COP_LIMIT` (0) and `SEDGE_COP_TIMER` (0).
+/// Begins a sender in state S6 with V(S) and NN(R) 0, for a receiver of this window width, with the window K,
+/// the transmission limit and the timer's value in ticks. Returns 0, or the first of `SEDGE_COP_WIDTH` (not
+/// even, 2 to 254), `SEDGE_COP_WINDOW` (not 1 to half the width), `SEDGE_COP_LIMIT` (0) and `SEDGE_COP_TIMER`
+/// (0).
 #[unsafe(no_mangle)]
 #[must_use]
 pub extern "C" fn sedge_fop_open(
@@ -72,8 +74,8 @@ pub extern "C" fn sedge_fop_open(
     )
 }
 
-/// Submits a unit, to be sent under sequence control: it waits, and the caller keeps it. Returns 0, or `SEDGE_DAMAGED`,
-/// or `SEDGE_COP_NOT_OPEN` in S6, or `SEDGE_COP_BUSY` while another one waits.
+/// Submits a unit to be sent under sequence control. The unit waits, and the caller keeps it. Returns 0, or
+/// `SEDGE_DAMAGED`, or `SEDGE_COP_NOT_OPEN` in S6, or `SEDGE_COP_BUSY` while another one waits.
 #[unsafe(no_mangle)]
 #[must_use]
 pub extern "C" fn sedge_fop_submit(sender: &mut KeptSender) -> u8
@@ -85,8 +87,8 @@ pub extern "C" fn sedge_fop_submit(sender: &mut KeptSender) -> u8
     }
 }
 
-/// Takes what goes on the link next. Returns one of `sedge_next`, and writes its number, or 0 if it has none; or
-/// returns `SEDGE_DAMAGED`, with nothing written.
+/// Takes what is to be sent on the link next. Returns one of `sedge_next`, and writes its number, or 0 if it
+/// has none; or returns `SEDGE_DAMAGED`, with nothing written.
 #[unsafe(no_mangle)]
 #[must_use]
 pub extern "C" fn sedge_fop_next(sender: &mut KeptSender, number: &mut u8) -> u8
@@ -103,11 +105,11 @@ pub extern "C" fn sedge_fop_next(sender: &mut KeptSender, number: &mut u8) -> u8
     })
 }
 
-/// A control word has arrived, and the sender is that of the virtual channel `vcid`. The call compares this with the
-/// `vcid` of the word; the caller has compared the scid of the telemetry frame that carried it. Returns the alert, of
-/// `sedge_alert`, and writes the number of units that are acknowledged, the oldest of those sent; or with nothing
-/// written and nothing changed it returns the first of `SEDGE_ABSENT`, if the word reports on another channel, and
-/// `SEDGE_DAMAGED`.
+/// Takes a CLCW for the sender of the virtual channel `vcid`. The call compares this number with the CLCW's
+/// `vcid`; the caller has already compared the scid of the telemetry frame that carried the CLCW. Returns the
+/// alert, of `sedge_alert`, and writes the number of units that are acknowledged, the oldest of those sent;
+/// or with nothing written and nothing changed it returns the first of `SEDGE_ABSENT`, if the CLCW reports on
+/// another channel, and `SEDGE_DAMAGED`.
 #[unsafe(no_mangle)]
 #[must_use]
 pub extern "C" fn sedge_fop_clcw(
@@ -134,7 +136,7 @@ pub extern "C" fn sedge_fop_clcw(
     })
 }
 
-/// A tick of the clock has passed. Returns the alert, of `sedge_alert`, or `SEDGE_DAMAGED`.
+/// Counts a tick of the clock. Returns the alert, of `sedge_alert`, or `SEDGE_DAMAGED`.
 #[unsafe(no_mangle)]
 #[must_use]
 pub extern "C" fn sedge_fop_tick(sender: &mut KeptSender) -> u8

@@ -1,4 +1,4 @@
-// Building telemetry frames of packets in the caller's memory.
+// Building telemetry frames from packets in the caller's memory.
 
 ghost use Rattle.std.specs.Prelude.{◌≡◌, ◌≤◌, ◌+◌, ◌-◌, ◌++◌, ◌==◌, ℕ, List, [], length, take, map, true, Ok, IfOk, OnErr, IfSome, is_some, OnOk};
 ghost use Rattle.space_packet.specs.Packets.{packets_in};
@@ -13,9 +13,10 @@ use crate::numbers::{DAMAGED, WRONG_COUNT};
 use space_packet::packet_len;
 use tm_link::{TmFault, Turn, can_build, can_queue, idle_left_after, put_next};
 
-/// A builder of telemetry frames (CCSDS 132.0-B-3, 4.2): where the octets that are to be sent stand in the memory, how
-/// many of them are left of the packet that was begun, the identifiers, the octets of a frame, the next frame's count,
-/// and the octets left of an idle packet, which are sent first. For C it is `struct sedge_tm_builder`.
+/// A builder of telemetry frames (CCSDS 132.0-B-3, 4.2): where the octets that are to be sent are in the
+/// memory, how many of them are left of the packet that was begun, the identifiers, the length of a frame,
+/// the next frame's count, and the number of octets left of an idle packet, which are sent first. For C it is
+/// `struct sedge_tm_builder`.
 #[repr(C)]
 #[derive(Clone, Copy)]
 pub struct KeptBuilder {
@@ -23,21 +24,21 @@ pub struct KeptBuilder {
     pub from: usize,
     /// The number of octets that are to be sent.
     pub count: usize,
-    /// The number of these that are left of the packet that was begun, the first ones.
+    /// The number of these, the first ones, that are left of the packet that was begun.
     pub begun: usize,
     /// The spacecraft identifier, below 1,024.
     pub scid: u16,
-    /// The octets of a frame, 16 to 2,048.
+    /// The length of a frame in octets, 16 to 2,048.
     pub length: u16,
     /// The virtual channel identifier, below 8.
     pub vcid: u8,
     /// The frame count of the next frame, on the master and on the virtual channel.
     pub next_count: u8,
-    /// The octets left of an idle packet, at most 6, which are sent first.
+    /// The number of octets left of an idle packet, at most 6, which are sent first.
     pub idle_left: u8,
 }
 
-/// Begins a builder whose frame counts begin at 0, with nothing to be sent. Returns 0, or `SEDGE_TM_FIELD_RANGE` if
+/// Begins a builder with frame counts of 0 and nothing to be sent. Returns 0, or `SEDGE_TM_FIELD_RANGE` if
 /// `scid` is not below 1,024, `vcid` not below 8, or length not from 16 to 2,048.
 #[unsafe(no_mangle)]
 #[must_use]
@@ -70,10 +71,10 @@ pub extern "C" fn sedge_tm_builder_open(
     0
 }
 
-/// Queues a packet, all of its octets, after those that are to be sent, at which it does not look. Returns 0, or the
-/// first of `SEDGE_DAMAGED` (the numbers of the struct are no builder's, or its octets are not in the memory),
-/// `SEDGE_TM_NOT_A_PACKET` (not exactly one packet, or an idle one) and `SEDGE_TM_MEMORY` (the octets to be sent and
-/// the packet are more than the memory has).
+/// Queues a packet, all of its octets, after those that are to be sent, which it does not read. Returns 0, or
+/// the first of `SEDGE_DAMAGED` (no builder has the numbers of the struct, or its octets are not in the
+/// memory), `SEDGE_TM_NOT_A_PACKET` (not exactly one packet, or an idle one) and `SEDGE_TM_MEMORY` (the
+/// octets to be sent and the packet do not fit in the memory).
 #[unsafe(no_mangle)]
 #[must_use]
 pub extern "C" fn sedge_tm_builder_queue(
@@ -86,7 +87,7 @@ pub extern "C" fn sedge_tm_builder_queue(
         → IfOk (queued_at builder.old packet.now memory.old)
         (λ s. builder_described builder.new memory.new ≡ Ok s) }
 
-    // Whatever stands before it, the packet stands after that, and nothing else changes.
+    // The packet follows the octets before it, whatever they are, and nothing else changes.
     ensures queued { OnOk (queued_at builder.old packet.now memory.old)
         ((pending_of builder.new memory.new ≡ pending_of builder.old memory.old ++ packet.now)
         × (builder.new ≡ record builder.old {
@@ -110,10 +111,10 @@ pub extern "C" fn sedge_tm_builder_queue(
 }
 
 /// Writes the next frame to the beginning of `out`, with this operational control field, of four octets as
-/// `sedge_clcw_encode` writes them, and its length, that of all the builder's frames, to `total`. Where packets run
-/// out within the frame, an idle packet fills it; where nothing is to be sent, the frame has only idle data. Returns
-/// 0, or the first of `SEDGE_DAMAGED` (as for `sedge_tm_builder_queue`, or the octets that this frame takes are not of
-/// whole packets), `SEDGE_WRONG_COUNT` (the field is not four octets) and `SEDGE_TM_ROOM`.
+/// `sedge_clcw_encode` writes them, and its length, that of all the builder's frames, to `total`. If packets
+/// run out within the frame, an idle packet fills it; if nothing is to be sent, the frame has only idle data.
+/// Returns 0, or the first of `SEDGE_DAMAGED` (as for `sedge_tm_builder_queue`, or the octets that this frame
+/// takes are not whole packets), `SEDGE_WRONG_COUNT` (the field is not four octets) and `SEDGE_TM_ROOM`.
 #[unsafe(no_mangle)]
 #[must_use]
 pub extern "C" fn sedge_tm_builder_build(
@@ -134,7 +135,7 @@ pub extern "C" fn sedge_tm_builder_build(
         → IfOk (built_at builder.old ocf.now memory.now (length out.old))
         (λ r. builder_described builder.new memory.now ≡ Ok r.1) }
 
-    // So do other octets that wait where the frame takes whole packets alone.
+    // This also holds if other octets wait, as long as the frame takes only whole packets.
     ensures state { IfOk (built_at builder.old ocf.now memory.now (length out.old))
         (λ r. state_of builder.new memory.now ≡ r.1) }
     ensures unchanged { OnErr (built_at builder.old ocf.now memory.now (length out.old))
@@ -187,8 +188,8 @@ fn can_send(builder: &KeptBuilder, memory: &[u8]) -> bool
     )
 }
 
-// Whether octets are whole packets as far as this many octets reach, of which the first ones are left of a packet that
-// was begun.
+// Whether octets are whole packets as far as this many octets reach. The first ones of these are left of a
+// packet that was begun.
 fn are_whole(packets: &[u8], begun: usize, count: usize) -> bool
     ensures { result ≡ are_whole packets.now begun count }
 {
@@ -239,8 +240,8 @@ fn turn_for(builder: &KeptBuilder) -> Turn
     }
 }
 
-// Puts a packet after the octets that are to be sent, which move to the beginning of the memory where there is too
-// little room after them.
+// Puts a packet after the octets that are to be sent. These move to the beginning of the memory if there is
+// too little room after them.
 fn queue(builder: &mut KeptBuilder, packet: &[u8], memory: &mut [u8])
     requires numbers { has_numbers builder.old (length memory.old) ≡ true }
     requires room { builder.old.count + length packet.now ≤ length memory.old }
@@ -279,7 +280,7 @@ fn put(builder: &mut KeptBuilder, packet: &[u8], memory: &mut [u8])
     builder.count = add(builder.count, packet, &mut memory[builder.from..]);
 }
 
-// Passes a frame.
+// Advances the builder by a frame.
 fn pass(builder: &mut KeptBuilder, memory: &[u8])
     requires { can_send builder.old memory.now ≡ true }
     ensures state { state_of builder.new memory.now
@@ -293,7 +294,7 @@ fn pass(builder: &mut KeptBuilder, memory: &[u8])
     builder.next_count = builder.next_count.wrapping_add(1);
 }
 
-// Passes the octets of a data field.
+// Advances the builder by the octets of a data field.
 fn send(builder: &mut KeptBuilder, memory: &[u8])
     requires { can_send builder.old memory.now ≡ true }
     ensures state { state_of builder.new memory.now
@@ -316,8 +317,8 @@ fn send(builder: &mut KeptBuilder, memory: &[u8])
     builder.idle_left = left as u8;
 }
 
-// How many octets are left of the packet that is begun, once this many octets were sent of the packet that was begun
-// and of those after it.
+// How many octets are left of the packet that is begun, after this many octets of the packet that was begun
+// and of those after it were sent.
 fn begun_after(packets: &[u8], begun: usize, count: usize) -> usize
     ensures { result ≡ (left_after count begun (map length (packets_in packets.now))).0 }
 {

@@ -18,14 +18,14 @@ use tm_link::{
     rest_after_packets,
 };
 
-/// An extractor of packets (CCSDS 132.0-B-3, 4.3.2): where the part of a packet stands in the memory, the last frame's
-/// count, and whether there was a frame. For C it is `struct sedge_tm_extractor`.
+/// An extractor of packets (CCSDS 132.0-B-3, 4.3.2): where the part of a packet is in the memory, the last
+/// frame's count, and whether there was a frame. For C it is `struct sedge_tm_extractor`.
 #[repr(C)]
 #[derive(Clone, Copy)]
 pub struct KeptExtractor {
     /// Where the part is in the memory.
     pub from: usize,
-    /// The octets of the part, and 0 if there is none.
+    /// The number of octets of the part, and 0 if there is none.
     pub count: usize,
     /// The virtual channel frame count of the last frame, if one was seen.
     pub last: u8,
@@ -33,13 +33,12 @@ pub struct KeptExtractor {
     pub seen: u8,
 }
 
-/// What came of a frame: how many octets the packet has that it ended, at the beginning of the memory, where the
-/// packets after it begin in the frame's data, whether it is the first frame, and how many are missing before it. For C
-/// it is `struct sedge_tm_extracted`.
+/// The outcome of a frame: the packets that it ends or contains, and how many frames are missing before it.
+/// For C it is `struct sedge_tm_extracted`.
 #[repr(C)]
 #[derive(Clone, Copy)]
 pub struct TakenFrame {
-    /// The octets of the packet at the beginning of the memory, and 0 if there is none.
+    /// The length of the packet at the beginning of the memory, and 0 if there is none.
     pub joined: usize,
     /// Where `sedge_tm_packet` begins in the frame's data.
     pub packets: Part,
@@ -49,16 +48,17 @@ pub struct TakenFrame {
     pub lost: u8,
 }
 
-/// Takes the next frame of the spacecraft and the virtual channel that came, its fields and its data as
-/// `sedge_tm_decode` gives them. Hand its packets on before the next call:
+/// Takes the next frame of the spacecraft and the virtual channel that arrived: its fields and its data, as
+/// `sedge_tm_decode` writes them. Use its packets before the next call:
 ///
-///     if (extracted.joined > 0) hand_on(memory, extracted.joined);
+///     if (extracted.joined > 0) use_packet(memory, extracted.joined);
 ///     struct sedge_part packet = extracted.packets;
-///     while (sedge_tm_packet(data, data_count, &packet)) hand_on(data + packet.from, packet.count);
+///     while (sedge_tm_packet(data, data_count, &packet)) use_packet(data + packet.from, packet.count);
 ///
-/// Where frames are missing, the part before them is dropped. Returns 0, or the first of `SEDGE_DAMAGED`,
-/// `SEDGE_TM_FIELD_RANGE` (the pointer is after the data) and `SEDGE_TM_MEMORY` (the packet that the frame ends and the
-/// part that it leaves are more than the memory has). The frame after a refused one shows that one as missing.
+/// If frames are missing, the part before them is dropped. Returns 0, or the first of `SEDGE_DAMAGED`,
+/// `SEDGE_TM_FIELD_RANGE` (the pointer is after the data) and `SEDGE_TM_MEMORY` (the packet that the frame
+/// ends and the part that it leaves do not fit in the memory). A refused frame counts as missing when the
+/// next one arrives.
 #[unsafe(no_mangle)]
 #[must_use]
 pub extern "C" fn sedge_tm_extractor_frame(
@@ -103,8 +103,8 @@ pub extern "C" fn sedge_tm_extractor_frame(
     }
 }
 
-/// Goes on to the packet after this part of a frame's data that is not idle. Returns true, and the part is that packet;
-/// or false, with nothing written, if there is none.
+/// Finds the next packet that is not idle after this part of a frame's data. Returns true and writes where
+/// that packet is; or returns false and writes nothing if there is none.
 #[unsafe(no_mangle)]
 #[must_use]
 pub extern "C" fn sedge_tm_packet(payload: &[u8], packet: &mut Part) -> bool
@@ -165,7 +165,7 @@ pub(crate) fn last_of(extractor: &KeptExtractor) -> Option<u8>
     None
 }
 
-// Where the part stands, which is dropped where frames are missing.
+// Where the part is; it is dropped if frames are missing.
 fn part_over_gap(gap: Gap, extractor: &KeptExtractor) -> Part
     ensures { result ≡ place_over_gap gap extractor.now }
 {
@@ -215,7 +215,7 @@ struct Kept {
     part: Part,
 }
 
-// Passes a data field, where the memory has room.
+// Takes a data field, if the memory has room.
 fn take_field(part: Part, pointer: Pointer, payload: &[u8], memory: &mut [u8]) -> Option<Kept>
     requires within { part.from + part.count ≤ length memory.old }
     requires fits { pointer_fits pointer (length payload.now) ≡ true }
@@ -239,7 +239,7 @@ fn take_field(part: Part, pointer: Pointer, payload: &[u8], memory: &mut [u8]) -
     }
 }
 
-// Goes on with the part.
+// Continues the part.
 fn go_on(part: Part, octets: &[u8], memory: &mut [u8]) -> Option<Kept>
     requires { part.from + part.count ≤ length memory.old }
     ensures room { is_some result ≡ not (nat_lt (length memory.old)
@@ -289,7 +289,7 @@ fn start(part: Part, octets: &[u8], next: &[u8], memory: &mut [u8]) -> Option<Ke
     })
 }
 
-// How many octets the packet has that the part and the octets after it are, and 0 for none or an idle one.
+// The length of the packet that the part and the octets after it form, and 0 for none or an idle one.
 fn joined_len(part: Part, octets: &[u8], memory: &[u8]) -> usize
     requires { part.from + part.count ≤ length memory.now }
     ensures count { result ≡ joined_len (octets_at part memory.now) octets.now }
@@ -305,7 +305,7 @@ fn joined_len(part: Part, octets: &[u8], memory: &[u8]) -> usize
     part.count + octets.len()
 }
 
-// How the part and the octets after it end, where there is a part.
+// How the part and the octets after it end, if there is a part.
 fn ending_after(part: Part, octets: &[u8], memory: &[u8]) -> Ending
     requires { part.from + part.count ≤ length memory.now }
     ensures { result ≡ ending_after (octets_at part memory.now) octets.now }
@@ -316,7 +316,8 @@ fn ending_after(part: Part, octets: &[u8], memory: &[u8]) -> Ending
     ending_with(&memory[part.from..part.from + part.count], octets)
 }
 
-// Puts the part at the beginning of the memory and the octets after it, and says how many they are together.
+// Puts the part at the beginning of the memory and the octets after it, and returns how many they are
+// together.
 fn join(part: Part, octets: &[u8], memory: &mut [u8]) -> usize
     requires within { part.from + part.count ≤ length memory.old }
     requires room { part.count + length octets.now ≤ length memory.old }
@@ -328,7 +329,7 @@ fn join(part: Part, octets: &[u8], memory: &mut [u8]) -> usize
     add(part.count, octets, memory)
 }
 
-// Puts the part at the beginning of the memory, where most frames find it.
+// Moves the part to the beginning of the memory, where most frames find it.
 fn move_front(part: Part, memory: &mut [u8])
     requires { part.from + part.count ≤ length memory.old }
     ensures part { take part.count memory.new ≡ octets_at part memory.old }

@@ -10,8 +10,8 @@ ghost use Rattle.sedgechisel.specs.TelemetryFrames.{frame_described, fields_of, 
 use crate::part::Part;
 use tm_link::{Pointer, TmFrame};
 
-/// A telemetry frame's fields (CCSDS 132.0-B-3, 4.1) without its data. The pointer is the place where the first packet
-/// starts, or 2047 for none, or 2046 for idle data alone. For C it is `struct sedge_tm_frame`.
+/// A telemetry frame's fields (CCSDS 132.0-B-3, 4.1) without its data. The pointer is the place where the
+/// first packet starts, or 2047 for none, or 2046 for only idle data. For C it is `struct sedge_tm_frame`.
 #[repr(C)]
 #[derive(Clone, Copy)]
 pub struct TelemetryFrame {
@@ -29,9 +29,9 @@ pub struct TelemetryFrame {
     pub ocf: [u8; 4],
 }
 
-/// Reads all of the octets as one frame of this length, and writes where its data are. The frame may be of any
-/// spacecraft and virtual channel: compare scid and vcid with your own before an extractor is given it, and scid before
-/// its control word is used. Returns 0, or the first of 1 to 6 of `sedge_tm_fault`.
+/// Reads all of the octets as one frame of this length, and writes where its data are. The frame may be of
+/// any spacecraft and virtual channel: compare scid and vcid with your own before you pass the frame to an
+/// extractor, and scid before you use its CLCW. Returns 0, or the first of 1 to 6 of `sedge_tm_fault`.
 #[unsafe(no_mangle)]
 #[must_use]
 pub extern "C" fn sedge_tm_decode(
@@ -55,8 +55,8 @@ pub extern "C" fn sedge_tm_decode(
     })
 }
 
-/// Writes the frame with these data and its FECF to the beginning of `out`, and its length in octets, 12 more than its
-/// data, to `total`. Returns 0, or the first of `SEDGE_TM_FIELD_RANGE` and `SEDGE_TM_ROOM`.
+/// Writes the frame with these data and its FECF to the beginning of `out`, and its length in octets, 12 more
+/// than its data, to `total`. Returns 0, or the first of `SEDGE_TM_FIELD_RANGE` and `SEDGE_TM_ROOM`.
 #[unsafe(no_mangle)]
 #[must_use]
 pub extern "C" fn sedge_tm_encode(

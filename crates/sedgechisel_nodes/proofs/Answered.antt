@@ -1,4 +1,4 @@
--- The number of what a submission answers.
+-- The number of a submission's answer.
 use Rattle.std.proofs.Common.{◌≡◌, ℕ, Option, Some, None, Result, Err, IfSome, IsOkUnless, refl, arith}
 use Rattle.std.proofs.Common.{List}
 use Rattle.nodes.specs.declared.fault.LinkFault.{LinkFault}
@@ -14,7 +14,7 @@ pub answered : (f : Option LinkFault) (r : Result (Unit {0}) LinkFault) (n : ℕ
     → IfSome f (λ fault. r ≡ Err fault) → (f ≡ None → IsOkUnless r Memory) → IsAnswer f n
 answered f r n is refused memory = grind (arith, is, refused, memory)
 
--- The parameter whose name a fault is.
+-- The parameter that a fault names.
 
 again : (f : Option Parameter) (name : List ℕ) → option_map (λ p. (row_of p).name) f ≡ Some name
     → parameter_named name ≡ f

@@ -1,5 +1,5 @@
--- A handle is a pointer alone, which stands for a box that is kept or for none: `of` and `into_kept` of every handle.
--- Assumes `Logic`.
+-- A handle is only a pointer, which represents a box that is kept or none: `of` and `into_kept` of
+-- every handle. Assumes `Logic`.
 use Prim.Native.Nat.{suc}
 use Rattle.std.proofs.Common.{◌≡◌, ℕ, List, [], ◌∷◌, ◌++◌, refl, sym, subst}
 use seplogic.Ra.Ura.{Ura}
@@ -181,7 +181,7 @@ module _ (h : Handled) where
       abbrev MeetsBy : Fn → (En : Ended) → Clauses 𝓤 En → Type 2
       MeetsBy fn En c = Closed 𝓤 H 𝓣.C 𝓣.Λ name fn → Meets 𝓛 En.signature (𝓣.C name) (closing 𝓛 En c)
 
-      -- `of` keeps the pointer alone
+      -- `of` keeps only the pointer
       pub of_meets : (k : Exits) → MeetsBy of_function (of_ended k) (of_clauses k)
       of_meets k closed =
           let L = heap_laws.the_row_laws in let En = of_ended k in let c = of_clauses k in let fn = of_function in
@@ -209,7 +209,7 @@ module _ (h : Handled) where
           returns ! (look_at ! 0 refl) $ free_all ! refl $ keep ! (3 ∷ 0 ∷ 2 ∷ 1 ∷ []) $
           by ! (leaves 𝓛 En hs c z made d (tt, tt) (tt, tt)))))
 
-      -- `into_kept` puts the allocator beside the pointer
+      -- `into_kept` adds the allocator to the pointer
       pub into_meets : MeetsBy into_function into_ended into_clauses
       into_meets closed =
           let L = heap_laws.the_row_laws in let En = into_ended in let c = into_clauses in let fn = into_function in

@@ -1,4 +1,4 @@
--- The ground of a program in C: what a call answers, and what the program holds then.
+-- The ground of a program in C: what a call returns, and what the program holds afterwards.
 use Rattle.std.specs.Prelude.{◌≡◌, ◌≢◌, ℕ, ◌⊎◌, length, Option, Some, None, option_map, IfSome}
 use Rattle.std.specs.Prelude.{Result, Ok, Err}
 use Rattle.std.specs.Option.{unwrap_or}
@@ -17,7 +17,7 @@ use Rattle.nodes.specs.Faults.{fault_row}
 use Rattle.sedgechisel_nodes.specs.declared.readings.GroundReading.{GroundReading}
 use Rattle.sedgechisel_nodes.specs.Calls.{closed}
 
--- the ground after a call, where there is one
+-- the ground after a call, if there is one
 abbrev pub stepped : Option GroundState → GroundEvent → Option GroundState
 stepped old event = option_map (λ s. (ground_step s event).after) old
 
@@ -25,12 +25,12 @@ abbrev pub number_of : Result (Unit {0}) LinkFault → ℕ
 number_of (Ok x) = 0
 number_of (Err fault) = (fault_row fault).0
 
--- the refusal's number; where there is none 0, or 6 where there was no memory
+-- the number of the refusal; without one 0, or 6 if memory ran out
 abbrev pub IsAnswer : Option LinkFault → ℕ → Type 0
 IsAnswer None answer = (answer ≡ 0) ⊎ (answer ≡ 6)
 IsAnswer (Some fault) answer = answer ≡ (fault_row fault).0
 
--- what a call that submits answers, and the ground before and after it
+-- what a call that submits returns, and the ground before and after it
 pub record IsSubmission (fault : GroundState → Option LinkFault) (event : GroundEvent)
     (old new : Option GroundState) (answer : ℕ) : Type 0 where
   pub none : old ≡ None → answer ≡ closed
@@ -38,7 +38,7 @@ pub record IsSubmission (fault : GroundState → Option LinkFault) (event : Grou
   pub after : answer ≡ 0 → new ≡ stepped old event
   pub unchanged : answer ≢ 0 → new ≡ old
 
--- what a directive is answered: 0, or the number of the sender's refusal
+-- the answer to a directive: 0, or the number of the sender's refusal
 abbrev pub directed_number : Result (Option Alert) CopFault → ℕ
 directed_number (Ok alert) = 0
 directed_number (Err fault) = (cop_row fault).0
@@ -47,14 +47,14 @@ abbrev pub directive_answer : Option GroundState → Directive → ℕ
 directive_answer None directive = closed
 directive_answer (Some s) directive = directed_number (ground_step s (Direct directive)).answer
 
--- what a call with a directive answers, and the ground before and after it; where it names none, it
--- changes nothing
+-- what a call with a directive returns, and the ground before and after it; a call that names no
+-- directive changes nothing
 pub record IsDirected (named : Option Directive) (old new : Option GroundState) (answer : ℕ)
     : Type 0 where
   pub answer_is : answer ≡ unwrap_or (option_map (directive_answer old) named) closed
   pub after : new ≡ unwrap_or (option_map (λ d. stepped old (Direct d)) named) old
 
--- what a call that resumes answers and writes, and the ground before and after it
+-- the return value and the output of a call that resumes
 abbrev pub IsResumption : Result ℕ LinkFault → ℕ → ℕ → ℕ → Type 0
 IsResumption (Ok whole) answer v v' = (answer ≡ 0) × (v' ≡ whole)
 IsResumption (Err fault) answer v v' = (answer ≡ (fault_row fault).0) × (v' ≡ v)

@@ -11,7 +11,7 @@ abbrev pub flag_number : Bool → ℕ
 flag_number true = 1
 flag_number false = 0
 
--- what is written of a ground
+-- the record that is written of a ground
 abbrev pub record_of : GroundState → GroundKept
 record_of s =
     let kept = kept_of s in
@@ -25,7 +25,7 @@ record_of s =
       zeros = replicate 5 0;
     }
 
--- what is read of it
+-- what is read from the record
 abbrev pub record_read : GroundKept → KeptGround
 record_read r = record {
   acknowledged = r.acknowledged;
@@ -36,6 +36,6 @@ record_read r = record {
   segments = r.segments;
 }
 
--- a ground can be opened so
+-- a ground can be opened with this record
 abbrev pub IsRecord : Config → GroundKept → Type 0
 IsRecord c r = IsConfig c × (r.known ≤ 1) × IsKept c (record_read r)

@@ -1,4 +1,4 @@
--- What a program in C learns of telemetry and of the sender.
+-- What a program in C learns from telemetry and about the sender.
 use Rattle.std.specs.Prelude.{ℕ, ◌==◌, if◌then◌else◌, List, length, Option, Some, None, Result, Ok}
 use Rattle.std.specs.Prelude.{Err}
 use Rattle.clcw.specs.declared.word.Clcw.{Clcw}
@@ -57,17 +57,17 @@ heard_kept Foreign = record no_heard { kind = 2 }
 heard_kept (Frame gap packets report alert) =
     heard_of 3 packets (gap_kept gap) (report_kept report) (alert_number alert)
 
--- a report that came by itself
+-- a CLCW that came by itself
 abbrev pub word_kept : HeardClcw → KeptHeard
 word_kept word = heard_of 4 0 (0, 0) (report_kept word.report) (alert_number word.alert)
 
--- what is said of octets that are to be one; of four
+-- what is written of octets that should be a CLCW, if there are four
 abbrev pub word_said : List ℕ → GroundState → Option KeptHeard
 word_said octets s =
     if length octets == 4 then Some (word_kept (ground_step s (ControlWord octets)).answer)
     else None
 
--- ---- the report that a telemetry frame carries
+-- ---- the CLCW that a telemetry frame carries
 
 abbrev pub no_word : Clcw
 no_word = record { status = 0; vcid = 0; flags = flags_from 0; farm_b = 0; value = 0 }
@@ -76,8 +76,8 @@ abbrev pub word_read : Result Clcw ClcwFault → Option Clcw
 word_read (Ok word) = Some word
 word_read (Err fault) = None
 
--- the report in octets that are a telemetry frame of this length; none where they are no frame, or
--- where the frame carries no report
+-- the CLCW in octets that are a telemetry frame of this length; none if the octets do not form a
+-- valid frame, or if the frame carries no CLCW
 abbrev pub report_in : Result FrameView TmFault → Option Clcw
 report_in (Ok frame) = word_read (clcw_at frame.ocf)
 report_in (Err fault) = None

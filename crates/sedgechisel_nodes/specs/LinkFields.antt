@@ -1,4 +1,4 @@
--- How the fields of a simulated link stand for what it holds.
+-- How the fields of a simulated link represent what it holds.
 use Rattle.sedgechisel_nodes.specs.declared.sim.link.Link.TheInside.{Inside}
 use Rattle.sedgechisel_nodes.specs.Links.{LinkState}
 

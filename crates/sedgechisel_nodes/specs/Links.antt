@@ -31,7 +31,7 @@ use Rattle.sedgechisel_nodes.specs.Heard.{no_heard, heard_kept, word_kept, no_wo
 use Rattle.cop1.specs.declared.vocabulary.Directive.TheVariants as directives
 use Rattle.nodes.specs.declared.event.Event.TheVariants as events
 
--- the world, and the octets of the frame or the packet that the last event gave
+-- the world, and the octets of the last event's frame or packet
 pub record LinkState : Type 0 where
   pub world : World
   pub octets : List ℕ
@@ -47,7 +47,7 @@ reply_octets (Sent octets) = octets
 reply_octets (Packet p) = p.octets
 reply_octets _ = []
 
--- the part of a node that refused a call, and the fault's number there
+-- the part of a node that refused a call, and the number of its fault
 abbrev pub refused_by : NodeFault → ℕ × ℕ
 refused_by (Link fault) = (1, (link_row fault).0)
 refused_by (Cop fault) = (2, (cop_row fault).0)
@@ -84,7 +84,7 @@ reply_kept (Packet p) = record no_reply { kind = 9; count = length p.octets; map
 
 -- ---- events
 
--- the number of a refusal; where there is none 0, or 6 where there was no memory
+-- the number of a refusal; without one 0, or 6 if memory ran out
 abbrev pub IsStepAnswer : Result ReplyView SimFault → ℕ → Type 0
 IsStepAnswer (Ok reply) answer = (answer ≡ 0) ⊎ (answer ≡ 6)
 IsStepAnswer (Err fault) answer = answer ≡ (fault_row fault).0
@@ -107,7 +107,7 @@ IsReply (Err fault) reply = Unit {0}
 abbrev pub octet_in : ℕ → Option ℕ
 octet_in value = if nat_le value 255 then Some value else None
 
--- the event that a struct has: its kind, and what an event of that kind has; the rest is ignored
+-- the event in a struct: its kind, and the fields of that kind; the rest is ignored
 abbrev pub event_named : KeptEvent → Option Event
 event_named e =
     if e.kind == 1 then Some (events.Submit e.map e.octets)
@@ -129,7 +129,7 @@ event_named e =
     else if e.kind == 17 then option_map events.Resume (octet_in e.value)
     else None
 
--- what a call with an event answers and writes, and the link before and after it
+-- the return value and the output of a call with an event, and the link before and after it
 pub record IsEventCall (event : Event) (old new : Option LinkState) (answer : ℕ)
     (reply reply' : KeptReply) : Type 0 where
   pub none : old ≡ None → answer ≡ closed
@@ -139,7 +139,7 @@ pub record IsEventCall (event : Event) (old new : Option LinkState) (answer : �
   pub replied : answer ≡ 0 → IfSome old (λ l. IsReply (world_step l.world event).answer reply')
   pub unchanged : answer ≢ 0 → (new ≡ old) × (reply' ≡ reply)
 
--- the same of a struct; where it has no event, nothing changes
+-- the same for a struct; if the struct has no event, nothing changes
 abbrev pub IsStepCall : Option Event → (old new : Option LinkState) → ℕ
     → (reply reply' : KeptReply) → Type 0
 IsStepCall (Some event) old new answer reply reply' = IsEventCall event old new answer reply reply'
@@ -147,7 +147,7 @@ IsStepCall None old new answer reply reply' = (answer ≡ closed) × (new ≡ ol
 
 -- ---- readings
 
--- the directive that began the session, and the number of Set V(R)
+-- the directive that began the session, and the value of Set V(R)
 abbrev pub begun_number : Option Directive → ℕ × ℕ
 begun_number (Some directives.InitWithoutCheck) = (1, 0)
 begun_number (Some directives.InitWithCheck) = (2, 0)
@@ -176,7 +176,7 @@ record_of w number m =
     else if number == 4 then accepted w
     else []
 
--- entry k of it
+-- entry k of a record
 abbrev pub entry_of : World → ℕ → ℕ → ℕ → Option (List ℕ)
 entry_of w number m k = slice_get (record_of w number m) k
 
@@ -185,7 +185,7 @@ entry_of w number m k = slice_get (record_of w number m) k
 abbrev pub submission_of : World → ℕ → Option PacketOn
 submission_of w k = slice_get w.session.submissions k
 
--- the MAP and the number of octets are written where there is one; the answer is 253 where there is
+-- the MAP and the number of octets are written if there is a packet; the answer is 253 if there is
 -- none
 abbrev pub IsPacketIfThere : Option PacketOn → ℕ → (on_map on_map' count count' : ℕ) → Type 0
 IsPacketIfThere None answer m m' count count' = (answer ≡ 253) × (m' ≡ m) × (count' ≡ count)

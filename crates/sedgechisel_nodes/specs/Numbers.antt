@@ -12,7 +12,7 @@ use Rattle.nodes.specs.Faults as link_faults
 use Rattle.simulated_link.specs.declared.fault.SimFault.TheVariants as sim
 use Rattle.simulated_link.specs.Faults as sim_faults
 
--- a parameter's number, in the order in which they are judged
+-- a parameter's number, in the order in which parameters are checked
 abbrev pub parameter_number : Parameter → ℕ
 parameter_number Scid = 1
 parameter_number Vcid = 2
@@ -30,7 +30,7 @@ parameter_number QueueSlots = 13
 parameter_number FrameLength = 14
 parameter_number Blocking = 15
 
--- 0 for none
+-- the number of the first parameter, 0 for none
 abbrev pub first_number : Option Parameter → ℕ
 first_number None = 0
 first_number (Some parameter) = parameter_number parameter

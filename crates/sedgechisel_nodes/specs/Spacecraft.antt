@@ -1,4 +1,4 @@
--- The spacecraft of a program in C: what a call answers, and what the program holds then.
+-- The spacecraft of a program in C: what a call returns, and what the program holds afterwards.
 use Rattle.std.specs.Prelude.{◌≡◌, ◌≢◌, ◌<◌, ℕ, List, Bool, true, false, Option, Some, None}
 use Rattle.std.specs.Prelude.{length, option_map, IfSome}
 use Rattle.tc_frame.specs.declared.frame.Command.TheVariants.{Unlock, SetVr}
@@ -77,7 +77,7 @@ board_reading_of s =
       vc_count = s.builder.vc_count;
     }
 
--- ---- a spacecraft that goes on with what was read of one
+-- ---- a spacecraft that continues from a reading of one
 
 abbrev pub numbers_read : BoardReading → KeptNumbers
 numbers_read read = record {
@@ -87,11 +87,11 @@ numbers_read read = record {
   vc_count = read.vc_count;
 }
 
--- a spacecraft can be opened so
+-- a spacecraft can be opened with this reading
 abbrev pub IsRestart : Config → BoardReading → Type 0
 IsRestart c read = IsConfig c × (read.farm_b < 4)
 
--- ---- packets are taken: those that came past the sequence control, or the others
+-- ---- taking packets: bypass packets, or packets of sequence-controlled frames
 
 abbrev pub next_packet : Bool → SpacecraftState → Option PacketOn
 next_packet false s = (spacecraft_step s Take).answer
@@ -101,8 +101,8 @@ abbrev pub after_taking : Bool → SpacecraftState → SpacecraftState
 after_taking false s = (spacecraft_step s Take).after
 after_taking true s = (spacecraft_step s TakeBypass).after
 
--- what a call that describes the next packet answers and writes; the spacecraft before and after
--- it
+-- the return value and the output of a call that describes the next packet, and the spacecraft
+-- before and after it
 pub record IsDescribed (past : Bool) (old new : Option SpacecraftState) (answer m m' : ℕ)
     (count count' : ℕ) : Type 0 where
   pub none : old ≡ None → (answer ≡ closed) × (m' ≡ m) × (count' ≡ count)
@@ -111,7 +111,7 @@ pub record IsDescribed (past : Bool) (old new : Option SpacecraftState) (answer 
   pub counted : IfSome old (λ s. count' ≡ count_of (octets_on (next_packet past s)))
   pub unchanged : new ≡ old
 
--- the same of a call that takes it
+-- the same for a call that takes the packet
 pub record IsTaken (past : Bool) (old new : Option SpacecraftState) (answer m m' : ℕ)
     (count count' : ℕ) (out out' : List ℕ) : Type 0 where
   pub packet : IsHanding next_answer (λ s. octets_on (next_packet past s))

@@ -1,16 +1,16 @@
-// The numbers of the answers that no crate below gives.
+// The numbers of the answers that no lower crate returns.
 
-/// The handle holds none.
+/// The handle holds nothing.
 pub(crate) const CLOSED: u8 = 255;
 
-/// A parameter is out of its range.
+/// A parameter is out of range.
 pub(crate) const OUT_OF_RANGE: u8 = 254;
 
-/// There is none of what is asked for.
+/// What is requested does not exist.
 pub(crate) const ABSENT: u8 = 253;
 
-/// The room is too short.
+/// The buffer is too short.
 pub(crate) const ROOM: u8 = 252;
 
-/// There was no memory.
+/// Memory ran out.
 pub(crate) const MEMORY: u8 = 6;

@@ -8,10 +8,10 @@ use crate::handles::GroundHandle;
 use c_words::directive_named;
 use std::alloc::Global;
 
-/// Gives the ground's sender a directive, of `sedge_directive` (sedgechisel.h), with its value; one that has none
-/// ignores it. Returns 0; or `SEDGE_COP_WRONG_STATE`; or for a value out of its range `SEDGE_COP_WINDOW`,
-/// `SEDGE_COP_LIMIT` or `SEDGE_COP_TIMER`; or `SEDGE_NODE_NONE`, also for a directive that is none, and for a number
-/// V(R) or V(S) above 255.
+/// Gives the ground's sender a directive, of `sedge_directive` (sedgechisel.h), with its value; a directive
+/// without a value ignores it. Returns 0; or `SEDGE_COP_WRONG_STATE`; or for a value out of range
+/// `SEDGE_COP_WINDOW`, `SEDGE_COP_LIMIT` or `SEDGE_COP_TIMER`; or `SEDGE_NODE_NONE`, also for a number that
+/// is not a directive, and for a V(R) or V(S) above 255.
 #[unsafe(no_mangle)]
 #[must_use]
 pub extern "C" fn sedge_ground_directive(

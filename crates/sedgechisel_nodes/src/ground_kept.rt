@@ -1,4 +1,4 @@
-// What a program in C keeps of a ground, and a ground that goes on with it.
+// What a program in C keeps of a ground, and a ground that continues from it.
 
 ghost use Rattle.std.specs.Prelude.{◌≡◌, Some};
 ghost use Rattle.nodes.specs.KeptGround.{opened_at};
@@ -11,9 +11,9 @@ use crate::holds::open;
 use nodes::{Config, Ground, KeptGround, LinkFault};
 use std::alloc::Global;
 
-/// What is kept of a ground: V(S) and NN(R) (CCSDS 232.1-B-2, 5.1), and the account of the submissions that were sent
-/// whole. It has no padding, so its octets may be stored as they are, and read on the same machine. For C it is
-/// `struct sedge_kept_ground`.
+/// The record of a ground: V(S) and NN(R) (CCSDS 232.1-B-2, 5.1), and the counts of the submissions that were
+/// sent whole. The record has no padding, so its octets may be stored as they are, and read on the same
+/// machine. For C it is `struct sedge_kept_ground`.
 #[repr(C)]
 #[derive(Clone, Copy)]
 pub struct GroundKept {
@@ -23,13 +23,13 @@ pub struct GroundKept {
     pub vs: u8,
     /// NN(R), the number that the spacecraft was last known to expect.
     pub nn: u8,
-    /// 1 where these are a session's, and no alert has shown that a condition is broken; else 0.
+    /// 1 if these numbers are a session's and no alert has shown a broken condition, otherwise 0.
     pub known: u8,
-    /// How many submissions more were sent whole, 0 to 127.
+    /// The number of further submissions that were sent whole, 0 to 127.
     pub whole: u8,
-    /// How many segments of each of these are not acknowledged, the oldest first; and then zeros.
+    /// For each of these, the oldest first, the number of its segments that are not acknowledged; then zeros.
     pub segments: [u8; 127],
-    /// Zeros, which are not looked at.
+    /// Zeros, which are not read.
     pub zeros: [u8; 5],
 }
 
@@ -64,10 +64,10 @@ fn kept_in(written: &GroundKept) -> KeptGround
     }
 }
 
-/// Writes what is kept of the ground, in one record of fixed size, and the ground stays as it was. A program stores the
-/// record after each call, and after a pull before the frame goes out; where the ground is lost,
-/// `sedge_ground_open_kept` opens another at it. Of submissions that were not sent whole nothing is kept, nor of bypass
-/// packets, of telemetry, and of what directives set. Returns 0.
+/// Writes the ground's record, which has a fixed size; the ground does not change. A program stores the
+/// record after each call, and after a pull before the frame goes out. If the ground is lost,
+/// `sedge_ground_open_kept` opens another one from the record. The record contains nothing of submissions
+/// that were not sent whole, of bypass packets, of telemetry, or of what directives set. Returns 0.
 #[unsafe(no_mangle)]
 pub extern "C" fn sedge_ground_kept(
     alloc: Global,
@@ -79,11 +79,12 @@ pub extern "C" fn sedge_ground_kept(
     read!(alloc, ground, kept, |node| record(&node))
 }
 
-/// Opens a ground that goes on where another was lost, in S6, at the record that `sedge_ground_kept` wrote: with its
-/// V(S), its NN(R) and its account of submissions. It is the other after Terminate, without what waited, and with the
-/// window, the limit and the timer of the configuration; so `sedge_ground_resume` begins the next session, as after an
-/// alert. It is opened as `sedge_ground_open` does. Returns 0, `SEDGE_NODE_OUT_OF_RANGE` (also for a record that no
-/// ground of this configuration writes) or `SEDGE_NODE_MEMORY`.
+/// Opens a ground that continues, in S6, from the record that `sedge_ground_kept` wrote of a lost one: with
+/// its V(S), its NN(R) and its counts of submissions. The new ground is the lost one after Terminate, without
+/// what waited, and with the window, the limit and the timer of the configuration. So `sedge_ground_resume`
+/// begins the next session, as after an alert. A ground that the handle holds is treated as by
+/// `sedge_ground_open`. Returns 0, `SEDGE_NODE_OUT_OF_RANGE` (also for a record that no ground of this
+/// configuration writes) or `SEDGE_NODE_MEMORY`.
 #[unsafe(no_mangle)]
 #[must_use]
 pub extern "C" fn sedge_ground_open_kept(

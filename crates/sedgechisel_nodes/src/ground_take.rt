@@ -1,4 +1,4 @@
-// The frames that a program in C takes of its ground, and the packets of telemetry.
+// The frames and the telemetry packets that a program in C takes from its ground.
 
 ghost use Rattle.std.specs.Prelude.{◌≡◌, ◌≢◌, true, length, Some, None, IfSome};
 ghost use Rattle.std.specs.Option.{unwrap_or};
@@ -17,7 +17,7 @@ use nodes::Ground;
 use std::alloc::Global;
 use tc_frame::{Check, TcFrame, encode};
 
-// How many octets the frame has that goes on the link next, 0 for none.
+// The length in octets of the next frame for the link, 0 for none.
 fn size_of_next(node: &Ground) -> usize
     ensures { result ≡ unwrap_or (size_of (ground_step node.now Pull).answer) 0 }
 {
@@ -27,8 +27,8 @@ fn size_of_next(node: &Ground) -> usize
     }
 }
 
-/// Writes how many octets the frame that goes on the link next has, 8 to 1,024; 0 where nothing is to be sent. Returns
-/// 0.
+/// Writes the length in octets of the next frame for the link, 8 to 1,024, or 0 if nothing is to be sent.
+/// Returns 0.
 #[unsafe(no_mangle)]
 pub extern "C" fn sedge_ground_next(
     alloc: Global,
@@ -58,7 +58,7 @@ fn write_frame(frame: &TcFrame<'_>, out: &mut [u8], count: &mut usize) -> u8
     }
 }
 
-// Writes the frame that goes on the link next, if it fits.
+// Writes the next frame for the link, if it fits.
 fn write_next(node: &Ground, out: &mut [u8], count: &mut usize) -> u8
     ensures answer { result ≡ room_answer (size_of (ground_step node.now Pull).answer) (length out.old) }
     ensures count { result ≡ 0 → count.new ≡ unwrap_or (size_of (ground_step node.now Pull).answer) 0 }
@@ -74,8 +74,8 @@ fn write_next(node: &Ground, out: &mut [u8], count: &mut usize) -> u8
     }
 }
 
-/// Takes the frame that goes on the link next, with its FECF (232.0-B-4, 4.1): writes it, and the number of its octets;
-/// or 0 octets where nothing is to be sent. Returns 0 or `SEDGE_NODE_ROOM`.
+/// Takes the next frame for the link, with its FECF (232.0-B-4, 4.1). Writes it and the number of its octets,
+/// or 0 octets if nothing is to be sent. Returns 0 or `SEDGE_NODE_ROOM`.
 #[unsafe(no_mangle)]
 #[must_use]
 pub extern "C" fn sedge_ground_pull(
@@ -97,9 +97,9 @@ pub extern "C" fn sedge_ground_pull(
     })
 }
 
-/// Writes the frame that goes on the link next as `sedge_ground_pull` does; the ground stays as it was. With
-/// `sedge_ground_advance` the frame counts as sent once a radio that may refuse it has taken it. Returns 0 or
-/// `SEDGE_NODE_ROOM`.
+/// Writes the next frame for the link as `sedge_ground_pull` does; the ground does not change. Call
+/// `sedge_ground_advance`, and the frame counts as sent, once a radio that may refuse it has taken it.
+/// Returns 0 or `SEDGE_NODE_ROOM`.
 #[unsafe(no_mangle)]
 #[must_use]
 pub extern "C" fn sedge_ground_peek(
@@ -115,8 +115,8 @@ pub extern "C" fn sedge_ground_peek(
     held!(alloc, ground, |node| write_next(&node, out, count))
 }
 
-/// Counts the frame that goes on the link next as sent, as `sedge_ground_pull` does; nothing changes where nothing is to
-/// be sent. Returns 0.
+/// Counts the next frame for the link as sent, as `sedge_ground_pull` does. If nothing is to be sent, nothing
+/// changes. Returns 0.
 #[unsafe(no_mangle)]
 pub extern "C" fn sedge_ground_advance(alloc: Global, ground: &mut GroundHandle) -> u8
     ensures none { ground.old.value ≡ None → result ≡ closed }
@@ -129,7 +129,7 @@ pub extern "C" fn sedge_ground_advance(alloc: Global, ground: &mut GroundHandle)
     })
 }
 
-/// Writes how many octets the oldest packet of telemetry has, 7 to 65,542; 0 where none waits. Returns 0.
+/// Writes the length in octets of the oldest telemetry packet, 7 to 65,542, or 0 if none waits. Returns 0.
 #[unsafe(no_mangle)]
 pub extern "C" fn sedge_ground_next_telemetry(
     alloc: Global,
@@ -142,8 +142,8 @@ pub extern "C" fn sedge_ground_next_telemetry(
     read!(alloc, ground, count, |node| count_of(node.peek_telemetry()))
 }
 
-/// Takes the oldest packet of telemetry (132.0-B-3, 4.3.2): writes it, and the number of its octets; or 0 octets where
-/// none waits. Returns 0 or `SEDGE_NODE_ROOM`.
+/// Takes the oldest telemetry packet (132.0-B-3, 4.3.2). Writes it and the number of its octets, or 0 octets
+/// if none waits. Returns 0 or `SEDGE_NODE_ROOM`.
 #[unsafe(no_mangle)]
 #[must_use]
 pub extern "C" fn sedge_ground_take_telemetry(

@@ -1,4 +1,4 @@
-// The ground of a program in C: telemetry and reports, the clock, and packets past the sequence control.
+// The ground of a program in C: telemetry and CLCWs, the clock, and bypass packets.
 
 ghost use Rattle.std.specs.Prelude.{◌≡◌, ◌≢◌, None, IfSome};
 ghost use Rattle.tm_link.specs.Decoding.{frame_at};
@@ -19,23 +19,23 @@ use nodes::{Ground, Heard, HeardClcw, HeardReport};
 use std::alloc::Global;
 use tm_link::{Gap, decode};
 
-/// What came of telemetry. For C it is `struct sedge_heard`.
+/// What became of telemetry. For C it is `struct sedge_heard`.
 #[repr(C)]
 #[derive(Clone, Copy, Default)]
 pub struct KeptHeard {
-    /// FRAME: the number of packets that came to wait to be taken.
+    /// FRAME: the number of packets added to those that wait to be taken.
     pub packets: usize,
     /// Of `sedge_heard_kind`.
     pub kind: u8,
-    /// INVALID: why they are no frame, of `sedge_tm_fault`.
+    /// INVALID: why the octets do not form a valid frame, of `sedge_tm_fault`.
     pub fault: u8,
-    /// FRAME: whether no frame came before it, 0 or 1.
+    /// FRAME: whether it is the first frame, 0 or 1.
     pub first: u8,
     /// FRAME: the number of frames that are missing before it.
     pub missing: u8,
-    /// FRAME, CLCW: what becomes of the report, of `sedge_heard_report`.
+    /// FRAME, CLCW: what becomes of the CLCW, of `sedge_heard_report`.
     pub report: u8,
-    /// REFUSED: why it is none, of `sedge_clcw_fault`.
+    /// REFUSED: why it is not a valid CLCW, of `sedge_clcw_fault`.
     pub word_fault: u8,
     /// USED: of `sedge_alert`, `SEDGE_NO_ALERT` for none.
     pub alert: u8,
@@ -102,8 +102,8 @@ pub(crate) fn kept_heard(heard: Heard) -> KeptHeard
     }
 }
 
-/// Takes octets that came from the spacecraft, and writes what they are. Returns 0, or `SEDGE_NODE_MEMORY` where they
-/// finish a packet.
+/// Takes octets that came from the spacecraft, and writes what they are. Returns 0, or `SEDGE_NODE_MEMORY`,
+/// only if they finish a packet.
 #[unsafe(no_mangle)]
 #[must_use]
 pub extern "C" fn sedge_ground_telemetry(
@@ -126,7 +126,7 @@ pub extern "C" fn sedge_ground_telemetry(
     })
 }
 
-// The report that a telemetry frame of this length carries.
+// The CLCW that a telemetry frame of this length carries.
 fn report_in(octets: &[u8], length: usize) -> Option<Clcw>
     ensures { result ≡ report_in (frame_at length octets.now) }
 {
@@ -139,7 +139,7 @@ fn report_in(octets: &[u8], length: usize) -> Option<Clcw>
     }
 }
 
-// A report that came by itself.
+// A CLCW that came by itself.
 pub(crate) fn kept_word(word: HeardClcw) -> KeptHeard
     ensures { result ≡ word_kept word }
 {
@@ -153,10 +153,10 @@ pub(crate) fn kept_word(word: HeardClcw) -> KeptHeard
     }
 }
 
-/// Takes a report that came by itself, a CLCW as a front end hands it on (232.0-B-4, 4.2), and writes what becomes of
-/// it, as `sedge_ground_telemetry` does of the report in a telemetry frame; telemetry is not touched. The last one may
-/// be handed on again before the next, which changes nothing; an older one may not come again as if it were new.
-/// Returns 0, or `SEDGE_NODE_ABSENT` if the octets are not four.
+/// Takes a CLCW that came by itself, as a front end forwards it (232.0-B-4, 4.2), and writes what becomes of
+/// it, as `sedge_ground_telemetry` does for the CLCW of a telemetry frame. Telemetry is not touched. The
+/// front end may repeat the last CLCW before the next one, which changes nothing; it may not forward an older
+/// one as if it were new. Returns 0, or `SEDGE_NODE_ABSENT` if the octets are not four.
 #[unsafe(no_mangle)]
 #[must_use]
 pub extern "C" fn sedge_ground_clcw(
@@ -177,9 +177,9 @@ pub extern "C" fn sedge_ground_clcw(
     })
 }
 
-/// Begins to take packets out of telemetry anew, as after a restart of the spacecraft, whose counts go on elsewhere: a
-/// packet that is not finished is dropped, and the next frame is the first (132.0-B-3, 4.3.2). Packets that wait to be
-/// taken stay. Returns 0.
+/// Restarts the extraction of packets from telemetry, for example after a restart of the spacecraft, whose
+/// frame counts then continue elsewhere. An unfinished packet is dropped, and the next frame is the first
+/// (132.0-B-3, 4.3.2). Packets that wait to be taken stay. Returns 0.
 #[unsafe(no_mangle)]
 pub extern "C" fn sedge_ground_forget_telemetry(alloc: Global, ground: &mut GroundHandle) -> u8
     ensures none { ground.old.value ≡ None → result ≡ closed }
@@ -192,8 +192,9 @@ pub extern "C" fn sedge_ground_forget_telemetry(alloc: Global, ground: &mut Grou
     })
 }
 
-/// Writes the report that a telemetry frame carries, of whichever spacecraft and virtual channel (232.0-B-4, 4.2); the
-/// ground stays as it was. Returns 0, or `SEDGE_NODE_ABSENT` if the octets are no frame or the frame carries no report.
+/// Writes the CLCW that a telemetry frame of any spacecraft and virtual channel carries (232.0-B-4, 4.2); the
+/// ground does not change. Returns 0, or `SEDGE_NODE_ABSENT` if the octets do not form a valid frame or the
+/// frame carries no CLCW.
 #[unsafe(no_mangle)]
 #[must_use]
 pub extern "C" fn sedge_ground_clcw_in(
@@ -212,7 +213,7 @@ pub extern "C" fn sedge_ground_clcw_in(
     )
 }
 
-/// A tick of the clock has passed. Returns the alert, of `sedge_alert`, `SEDGE_NO_ALERT` for none.
+/// Counts a tick of the clock. Returns the alert, of `sedge_alert`, `SEDGE_NO_ALERT` for none.
 #[unsafe(no_mangle)]
 #[must_use]
 pub extern "C" fn sedge_ground_tick(alloc: Global, ground: &mut GroundHandle) -> u8
@@ -232,8 +233,8 @@ fn bypassed(node: &mut Ground, map: u8, octets: &[u8]) -> u8
     number_of(node.bypass(map, octets))
 }
 
-/// Submits one packet on a MAP past the sequence control. Returns 0, or the first of 2 to 5 of `sedge_node_status` that
-/// applies, or `SEDGE_NODE_MEMORY`.
+/// Submits one packet on a MAP by bypass (Type-BD). Returns 0, or the first of 2 to 5 of `sedge_node_status`
+/// that applies, or `SEDGE_NODE_MEMORY`.
 #[unsafe(no_mangle)]
 #[must_use]
 pub extern "C" fn sedge_ground_bypass(

@@ -21,8 +21,8 @@ use nodes::{Config, Ground, KeptNumbers, Spacecraft};
 use std::alloc::Global;
 use std::marker::Model;
 
-// Opens a node that is made of parameters in their ranges, in place of one that was there. Answers 0, or 254 where a
-// parameter is out of its range, or 6 where there is no memory.
+// Opens a node, built from parameters in range, instead of one that was there. Returns 0, 254 if a parameter
+// is out of range, or 6 if memory runs out.
 macro_rules! opened {
     ($alloc:expr, $handle:expr, $config:expr, $make:path) => {{
         let Ok(valid) = $config.valid() else {
@@ -35,7 +35,7 @@ macro_rules! opened {
     }};
 }
 
-/// A ground, or none, which is null. For C it is `struct sedge_ground`.
+/// A ground, or null for none. For C it is `struct sedge_ground`.
 #[repr(C)]
 pub struct GroundHandle {
     at: *mut u8,
@@ -67,9 +67,9 @@ impl Holds for GroundHandle {
     }
 }
 
-/// Opens a ground, in place of one that the handle holds. This one is let go of once the new one is made: a refusal
-/// leaves it, and until then both have memory. Where there is memory for one alone, close the handle first. Returns 0,
-/// `SEDGE_NODE_OUT_OF_RANGE` or `SEDGE_NODE_MEMORY`.
+/// Opens a ground instead of one that the handle holds. The old ground is released once the new one is built:
+/// a refusal leaves it, and until then both have memory. If there is memory only for one, close the handle
+/// first. Returns 0, `SEDGE_NODE_OUT_OF_RANGE` or `SEDGE_NODE_MEMORY`.
 #[unsafe(no_mangle)]
 #[must_use]
 pub extern "C" fn sedge_ground_open(alloc: Global, ground: &mut GroundHandle, config: &Config) -> u8
@@ -78,7 +78,7 @@ pub extern "C" fn sedge_ground_open(alloc: Global, ground: &mut GroundHandle, co
     opened!(alloc, ground, config, Ground::of)
 }
 
-/// Closes the ground, where there is one; the handle holds none then.
+/// Closes the ground, if there is one; the handle then holds none.
 #[unsafe(no_mangle)]
 pub extern "C" fn sedge_ground_close(alloc: Global, ground: &mut GroundHandle)
     ensures { ground.new.value ≡ None }
@@ -86,7 +86,7 @@ pub extern "C" fn sedge_ground_close(alloc: Global, ground: &mut GroundHandle)
     drop(take(ground, alloc));
 }
 
-/// A spacecraft, or none, which is null. For C it is `struct sedge_spacecraft`.
+/// A spacecraft, or null for none. For C it is `struct sedge_spacecraft`.
 #[repr(C)]
 pub struct SpacecraftHandle {
     at: *mut u8,
@@ -118,7 +118,7 @@ impl Holds for SpacecraftHandle {
     }
 }
 
-/// Opens a spacecraft, in place of one that the handle holds, as `sedge_ground_open` does. Returns 0,
+/// Opens a spacecraft instead of one that the handle holds, as `sedge_ground_open` does. Returns 0,
 /// `SEDGE_NODE_OUT_OF_RANGE` or `SEDGE_NODE_MEMORY`.
 #[unsafe(no_mangle)]
 #[must_use]
@@ -132,10 +132,10 @@ pub extern "C" fn sedge_spacecraft_open(
     opened!(alloc, spacecraft, config, Spacecraft::of)
 }
 
-/// Opens a spacecraft that goes on with what `sedge_spacecraft_read` gave before a restart on purpose: V(R), which is
-/// `value` there, `farm_b`, and the counts of telemetry frames. Its receiver is Open with no flag, and no packet is on
-/// board; the other fields are not looked at. It is opened as `sedge_spacecraft_open` does. Returns 0,
-/// `SEDGE_NODE_OUT_OF_RANGE` (also if `farm_b` is not below 4) or `SEDGE_NODE_MEMORY`.
+/// Opens a spacecraft that continues with what `sedge_spacecraft_read` wrote before a deliberate restart: V(R), which
+/// is `value` there, `farm_b`, and the telemetry frame counts. The other fields are not read. The receiver is Open with
+/// no flag set, and no packet is on board. A spacecraft that the handle holds is treated as by `sedge_spacecraft_open`.
+/// Returns 0, `SEDGE_NODE_OUT_OF_RANGE` (also if `farm_b` is not below 4) or `SEDGE_NODE_MEMORY`.
 #[unsafe(no_mangle)]
 #[must_use]
 pub extern "C" fn sedge_spacecraft_open_kept(
@@ -160,7 +160,7 @@ pub extern "C" fn sedge_spacecraft_open_kept(
     }
 }
 
-// The numbers that are kept of a spacecraft, in what was read of it.
+// The numbers that are kept of a spacecraft, taken from a reading.
 fn numbers_of(read: &BoardReading) -> KeptNumbers
     ensures { result ≡ numbers_read read.now }
 {
@@ -172,7 +172,7 @@ fn numbers_of(read: &BoardReading) -> KeptNumbers
     }
 }
 
-/// Closes the spacecraft, where there is one; the handle holds none then.
+/// Closes the spacecraft, if there is one; the handle then holds none.
 #[unsafe(no_mangle)]
 pub extern "C" fn sedge_spacecraft_close(alloc: Global, spacecraft: &mut SpacecraftHandle)
     ensures { spacecraft.new.value ≡ None }
@@ -180,7 +180,7 @@ pub extern "C" fn sedge_spacecraft_close(alloc: Global, spacecraft: &mut Spacecr
     drop(take(spacecraft, alloc));
 }
 
-/// A simulated link, or none, which is null. For C it is `struct sedge_sim`.
+/// A simulated link, or null for none. For C it is `struct sedge_sim`.
 #[repr(C)]
 pub struct SimHandle {
     at: *mut u8,
@@ -212,8 +212,8 @@ impl Holds for SimHandle {
     }
 }
 
-/// Opens a link with two new nodes, in place of one that the handle holds, as `sedge_ground_open` does. Returns 0,
-/// `SEDGE_NODE_OUT_OF_RANGE` or `SEDGE_NODE_MEMORY`.
+/// Opens a link with two new nodes instead of one that the handle holds, as `sedge_ground_open` does. Returns
+/// 0, `SEDGE_NODE_OUT_OF_RANGE` or `SEDGE_NODE_MEMORY`.
 #[unsafe(no_mangle)]
 #[must_use]
 pub extern "C" fn sedge_sim_open(alloc: Global, sim: &mut SimHandle, config: &Config) -> u8
@@ -228,7 +228,7 @@ pub extern "C" fn sedge_sim_open(alloc: Global, sim: &mut SimHandle, config: &Co
     }
 }
 
-/// Closes the link, where there is one; the handle holds none then.
+/// Closes the link, if there is one; the handle then holds none.
 #[unsafe(no_mangle)]
 pub extern "C" fn sedge_sim_close(alloc: Global, sim: &mut SimHandle)
     ensures { sim.new.value ≡ None }

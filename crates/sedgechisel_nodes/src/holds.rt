@@ -1,4 +1,4 @@
-// What all handles share: what one holds is taken out and put in.
+// What all handles share: taking out what a handle holds, and putting it in.
 
 ghost use Rattle.std.specs.Prelude.{◌≡◌, ◌≢◌, ◌⊎◌, Option, Some, None, option_map};
 
@@ -29,7 +29,7 @@ pub(crate) fn take<H: Holds>(handle: &mut H, alloc: Global) -> Option<Box<H::Nod
     mem::replace(handle, none).into_kept(alloc).into_option()
 }
 
-// Puts in what was taken out, where nothing is held meanwhile.
+// Puts back what was taken out; nothing may be held meanwhile.
 pub(crate) fn put_back<H: Holds>(handle: &mut H, alloc: Global, node: Box<H::Node>)
     requires { H.held handle.old ≡ None }
     ensures { H.held handle.new ≡ Some node.value }
@@ -38,7 +38,7 @@ pub(crate) fn put_back<H: Holds>(handle: &mut H, alloc: Global, node: Box<H::Nod
     mem::replace(handle, full).into_kept(alloc).end();
 }
 
-// Puts in what is to be held; what was there is freed.
+// Puts in what is to be held, and frees what was there.
 pub(crate) fn put<H: Holds>(handle: &mut H, alloc: Global, node: Box<H::Node>)
     ensures { H.held handle.new ≡ Some node.value }
 {
@@ -46,7 +46,7 @@ pub(crate) fn put<H: Holds>(handle: &mut H, alloc: Global, node: Box<H::Node>)
     drop(mem::replace(handle, full).into_kept(alloc).into_option());
 }
 
-// Puts in what is new, in place of what was there. Answers 0, or 6 where there is no memory.
+// Puts in a new node instead of what was there. Returns 0, or 6 if memory runs out.
 pub(crate) fn open<H: Holds>(handle: &mut H, alloc: Global, node: H::Node) -> u8
     ensures answer { (result ≡ 0) ⊎ (result ≡ 6) }
     ensures opened { result ≡ 0 → H.held handle.new ≡ Some node }

@@ -1,8 +1,9 @@
-//! Both nodes of the link for programs in C, and a simulated link between two such nodes, each held by a handle. Memory
-//! comes from three functions that the program provides.
+//! Both nodes of the link for programs in C, and a simulated link between two such nodes, each held by a
+//! handle. Memory comes from three functions that the program provides.
 #![tactic(auto)]
 
-// What a call makes of the node that a handle holds; the handle holds it again afterwards. 255 where it holds none.
+// Runs a call on the node that a handle holds; the handle holds it again afterwards. Returns 255 if it holds
+// none.
 macro_rules! held {
     ($alloc:expr, $handle:expr, |$node:ident| $call:expr) => {{
         let Some(mut $node) = $crate::holds::take($handle, $alloc) else {

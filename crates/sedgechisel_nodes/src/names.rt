@@ -1,4 +1,4 @@
-// The names of numbers, as the crates give them; "?" for a number that is none.
+// The names of numbers, as the crates define them; "?" for any other number.
 
 ghost use Rattle.std.specs.Prelude.{◌≡◌};
 ghost use Rattle.c_words.specs.Words.{text_of};

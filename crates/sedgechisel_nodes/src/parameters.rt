@@ -22,8 +22,8 @@ fn first_out_of_range(config: &Config) -> Option<Parameter>
     }
 }
 
-/// Returns the first parameter that is out of its range, of `sedge_parameter`; `SEDGE_NO_PARAMETER` for none. A `width`
-/// is also out of its range where it is odd, and a `window` where it is more than half of that.
+/// Returns the first parameter that is out of range, of `sedge_parameter`; `SEDGE_NO_PARAMETER` for none. A
+/// `width` is also out of range if it is odd, and a `window` if it is more than half the width.
 #[unsafe(no_mangle)]
 #[must_use]
 pub extern "C" fn sedge_config_fault(config: &Config) -> u8
@@ -35,7 +35,8 @@ pub extern "C" fn sedge_config_fault(config: &Config) -> u8
     }
 }
 
-/// Writes the default of each parameter. A program begins with these, and sets what its mission has otherwise.
+/// Writes the default of each parameter. A program begins with these, and sets those that differ in its
+/// mission.
 #[unsafe(no_mangle)]
 pub extern "C" fn sedge_config_default(config: &mut Config)
     ensures { config.new ≡ default_config }

@@ -1,4 +1,4 @@
-// What a program in C reads of its nodes.
+// What a program in C reads from its nodes.
 
 ghost use Rattle.std.specs.Prelude.{◌≡◌, Some};
 ghost use Rattle.sedgechisel_nodes.specs.Spacecraft.{board_reading_of, farm_mode_number};
@@ -14,30 +14,31 @@ use cop1::{FarmMode, FopMode};
 use nodes::{Ground, Spacecraft};
 use std::alloc::Global;
 
-/// What is read of a ground.
+/// A reading of a ground.
 #[repr(C)]
 #[derive(Clone, Copy)]
 pub struct GroundReading {
-    /// The number of submissions of the session; they count from 0. This and the two below: modulo 2^64, after an
-    /// alert too, and 0 once V(S) is set.
+    /// The number of submissions of the session; they count from 0. This number and the two below are modulo
+    /// 2^64, also after an alert, and 0 once V(S) is set.
     pub submitted: u64,
-    /// How many first ones of them were sent whole, each to its last segment.
+    /// How many of the session's submissions, from the first on, were sent whole, each to its last segment.
     pub sent_whole: u64,
-    /// How many first ones are acknowledged whole, so that they are on board.
+    /// How many of the session's submissions, from the first on, are acknowledged whole, so that they are on
+    /// board.
     pub acknowledged_whole: u64,
     /// The number of segments that were submitted and are not acknowledged.
     pub outstanding: usize,
-    /// How many of them wait to be sent for the first time.
+    /// How many outstanding segments wait to be sent for the first time.
     pub unsent: usize,
-    /// How many of them are to be sent again.
+    /// How many outstanding segments are to be retransmitted.
     pub due: usize,
     /// How many bypass packets wait to be sent.
     pub bypassed: usize,
     /// Of telemetry, in octets.
     pub frame_length: usize,
-    /// The ticks that are left of the timer, or 0 where it does not run.
+    /// The ticks that are left while the timer runs, otherwise 0.
     pub ticks: u16,
-    /// Of the sender, of `sedge_fop_state` (232.1-B-2, 5.1).
+    /// The sender's state, of `sedge_fop_state` (232.1-B-2, 5.1).
     pub state: u8,
     /// V(S), the number of the next segment that is sent for the first time.
     pub vs: u8,
@@ -73,8 +74,9 @@ pub(crate) fn reading(node: &Ground) -> GroundReading
     }
 }
 
-/// Reads the ground: how far its submissions have come, the sender's state, V(S), NN(R), transmission count and timer,
-/// what is outstanding and what waits, and how many octets a telemetry frame has. It stays as it was. Returns 0.
+/// Reads the ground: how far its submissions have come, the sender's state, V(S), NN(R), transmission count
+/// and timer, what is outstanding and what waits, and how many octets a telemetry frame has. The ground does
+/// not change. Returns 0.
 #[unsafe(no_mangle)]
 pub extern "C" fn sedge_ground_read(
     alloc: Global,
@@ -86,9 +88,10 @@ pub extern "C" fn sedge_ground_read(
     read!(alloc, ground, read, |node| reading(&node))
 }
 
-/// What is read of a spacecraft: the octets of a telemetry frame, and the report that the next one carries, its flags
-/// as the bits of the third octet (CCSDS 232.0-B-4, 4.2.1); the packets that wait; the receiver's state; and the next
-/// frame's counts (CCSDS 132.0-B-3, 4.1.2). For C it is `struct sedge_spacecraft_reading`.
+/// A reading of a spacecraft: the length of a telemetry frame; the CLCW that the next one carries, with its
+/// flags as the bits of the third octet (CCSDS 232.0-B-4, 4.2.1); the packets that wait; the receiver's
+/// state; and the next frame's counts (CCSDS 132.0-B-3, 4.1.2). For C it is `struct
+/// sedge_spacecraft_reading`.
 #[repr(C)]
 #[derive(Clone, Copy)]
 pub struct BoardReading {
@@ -96,15 +99,15 @@ pub struct BoardReading {
     pub frame_length: usize,
     /// How many packets of sequence-controlled frames wait to be taken.
     pub ready: usize,
-    /// How many packets that came past the sequence control wait to be taken.
+    /// How many bypass packets wait to be taken.
     pub bypassed: usize,
-    /// Of the report that the next frame carries, as in struct `sedge_clcw`.
+    /// Of the CLCW that the next frame carries, as in struct `sedge_clcw`.
     pub status: u8,
     pub vcid: u8,
     pub flags: u8,
     pub farm_b: u8,
     pub value: u8,
-    /// Of the receiver, of `sedge_farm_mode`.
+    /// The receiver's state, of `sedge_farm_mode`.
     pub state: u8,
     /// The next frame's count on the master channel.
     pub mc_count: u8,
@@ -138,8 +141,8 @@ pub(crate) fn board_reading(node: &Spacecraft) -> BoardReading
     }
 }
 
-/// Reads the spacecraft: how many octets a telemetry frame has, how many packets wait, the report that the next frame
-/// carries, its counts, and the receiver's state. It stays as it was. Returns 0.
+/// Reads the spacecraft: how many octets a telemetry frame has, how many packets wait, the CLCW that the next
+/// frame carries, its counts, and the receiver's state. The spacecraft does not change. Returns 0.
 #[unsafe(no_mangle)]
 pub extern "C" fn sedge_spacecraft_read(
     alloc: Global,
@@ -152,11 +155,12 @@ pub extern "C" fn sedge_spacecraft_read(
     read!(alloc, spacecraft, read, |node| board_reading(&node))
 }
 
-/// Writes how many of the segments that were sent and not acknowledged were accepted on board when a report of this
-/// value was made: the oldest ones (232.1-B-2, 5.1). It does so after an alert too, until V(S) is set or an initiation
-/// begins, and goes by the numbers alone: after an alert that shows a broken condition nothing of them is known,
-/// whatever it writes. If V(S) is NN(R) there are no such segments, and it writes 0 whatever the value. Returns 0, or
-/// `SEDGE_NODE_ABSENT` if there are and the value does not lie from NN(R) to V(S), so that nothing is known of them.
+/// Writes how many of the segments that were sent and not acknowledged were accepted on board when a CLCW of
+/// this value was made. They are the oldest ones (232.1-B-2, 5.1). The call does so after an alert too, until
+/// V(S) is set or an initiation begins. It uses only the numbers: after an alert that shows a broken
+/// condition nothing is known of these segments, whatever the call writes. If V(S) is NN(R), there are no
+/// such segments, and the call writes 0 for every value. Returns 0, or `SEDGE_NODE_ABSENT` if there are such
+/// segments and the value does not lie from NN(R) to V(S), so that nothing is known of them.
 #[unsafe(no_mangle)]
 #[must_use]
 pub extern "C" fn sedge_ground_accepted_beyond(
@@ -175,11 +179,11 @@ pub extern "C" fn sedge_ground_accepted_beyond(
     )
 }
 
-/// Writes how many first ones of the session's submissions are known to be on board whole by a report of this value:
-/// those that are acknowledged, and those all of whose segments it says were accepted (232.1-B-2, 5.1). It does so
-/// after an alert too. Returns 0, or `SEDGE_NODE_ABSENT` where nothing is known: no session has begun, V(S) was set
-/// since, an alert came since that shows a broken condition, or V(S) is not NN(R) and the value does not lie from NN(R)
-/// to V(S).
+/// Writes how many of the session's submissions, from the first on, are known to be on board whole from a
+/// CLCW of this value. They are those that are acknowledged, and those whose segments were all accepted
+/// according to the CLCW (232.1-B-2, 5.1). The call does so after an alert too. Returns 0, or
+/// `SEDGE_NODE_ABSENT` where nothing is known: no session has begun, V(S) was set since, an alert has shown a
+/// broken condition since, or V(S) is not NN(R) and the value does not lie from NN(R) to V(S).
 #[unsafe(no_mangle)]
 #[must_use]
 pub extern "C" fn sedge_ground_known_on_board(

@@ -1,4 +1,4 @@
-// What is taken out into the caller's room.
+// What is written to the caller's buffer.
 
 ghost use Rattle.std.specs.Prelude.{◌≡◌, ◌≢◌, ◌≤◌, ◌++◌, drop, length, option_map, option_copied};
 ghost use Rattle.nodes.specs.Packets.{lent_packet};
@@ -6,7 +6,7 @@ ghost use Rattle.sedgechisel_nodes.specs.Calls.{IsWritten, next_answer, count_of
 
 use crate::answers::{ABSENT, ROOM};
 
-// Writes a value, if there is one; 253 where there is none.
+// Writes a value, if there is one; returns 253 if there is none.
 pub(crate) fn write<T: Drop>(value: Option<T>, out: &mut T) -> u8
     ensures { IsWritten value result out.old out.new }
 {
@@ -19,7 +19,7 @@ pub(crate) fn write<T: Drop>(value: Option<T>, out: &mut T) -> u8
     }
 }
 
-// Copies octets to the beginning of the room.
+// Copies octets to the beginning of the buffer.
 pub(crate) fn copy(octets: &[u8], out: &mut [u8])
     requires { length octets.now ≤ length out.old }
     ensures { out.new ≡ octets.now ++ drop (length octets.now) out.old }
@@ -37,7 +37,7 @@ pub(crate) fn count_of(octets: Option<&[u8]>) -> usize
     }
 }
 
-// Hands octets out, if there are any; 252 where the room is too short.
+// Writes octets to the buffer, if there are any; returns 252 if the buffer is too short.
 pub(crate) fn hand_out(octets: Option<&[u8]>, out: &mut [u8], count: &mut usize) -> u8
     ensures answer { result ≡ next_answer (option_copied octets.entry) (length out.old) }
     ensures handed { result ≡ 0
@@ -56,7 +56,7 @@ pub(crate) fn hand_out(octets: Option<&[u8]>, out: &mut [u8], count: &mut usize)
     0
 }
 
-// Writes the packet's MAP, and how many octets it has; or 0 octets alone where there is none.
+// Writes the packet's MAP and the number of its octets; or only 0 octets if there is none.
 pub(crate) fn describe(packet: Option<(u8, &[u8])>, map: &mut u8, count: &mut usize)
     ensures map { map.new ≡ map_left (option_map lent_packet packet.entry) map.old }
     ensures count { count.new ≡ count_of (octets_on (option_map lent_packet packet.entry)) }
@@ -70,7 +70,7 @@ pub(crate) fn describe(packet: Option<(u8, &[u8])>, map: &mut u8, count: &mut us
     }
 }
 
-// Hands a packet out with its MAP, if there is one; 252 where the room is too short.
+// Writes a packet to the buffer, and its MAP, if there is one; returns 252 if the buffer is too short.
 pub(crate) fn hand_out_on(
     packet: Option<(u8, &[u8])>,
     map: &mut u8,

@@ -18,15 +18,15 @@ use nodes::Received;
 use std::alloc::Global;
 use tc_frame::Command;
 
-/// What came of octets. For C it is `struct sedge_received`.
+/// What became of octets. For C it is `struct sedge_received`.
 #[repr(C)]
 #[derive(Clone, Copy, Default)]
 pub struct KeptReceived {
-    /// AD: the number of packets that came to wait to be taken.
+    /// AD: the number of packets added to those that wait to be taken.
     pub ready: usize,
     /// Of `sedge_received_kind`.
     pub kind: u8,
-    /// INVALID: why they are no frame, of `sedge_tc_fault`.
+    /// INVALID: why the octets do not form a valid frame, of `sedge_tc_fault`.
     pub fault: u8,
     /// AD: its number, N(S).
     pub n: u8,
@@ -96,8 +96,8 @@ pub(crate) fn kept_received(received: Received) -> KeptReceived
     }
 }
 
-/// Takes octets that came from the ground, and writes what they are. Returns 0, or `SEDGE_NODE_MEMORY` where a frame's
-/// data are handed on.
+/// Takes octets that came from the ground, and writes what they are. Returns 0, or `SEDGE_NODE_MEMORY`, only
+/// if a frame's data are passed on.
 #[unsafe(no_mangle)]
 #[must_use]
 pub extern "C" fn sedge_spacecraft_receive(
@@ -120,8 +120,8 @@ pub extern "C" fn sedge_spacecraft_receive(
     })
 }
 
-/// Queues a packet to be sent as telemetry (132.0-B-3, 4.2.2). Returns 0, or the first of `SEDGE_TM_NOT_A_PACKET` (the
-/// octets are not exactly one packet, or an idle one) and `SEDGE_TM_MEMORY`.
+/// Queues a packet to be sent as telemetry (132.0-B-3, 4.2.2). Returns 0, or the first of
+/// `SEDGE_TM_NOT_A_PACKET` (the octets are not exactly one packet, or are an idle one) and `SEDGE_TM_MEMORY`.
 #[unsafe(no_mangle)]
 #[must_use]
 pub extern "C" fn sedge_spacecraft_telemetry(

@@ -1,4 +1,4 @@
-// The packets that a program in C takes of its spacecraft, and the frames that it sends.
+// The packets that a program in C takes from its spacecraft, and the frames that the spacecraft sends.
 
 ghost use Rattle.std.specs.Prelude.{◌≡◌, ◌≢◌, ◌++◌, drop, length, option_map, true, false, Some};
 ghost use Rattle.tm_link.specs.Encoding.{spelling};
@@ -13,7 +13,7 @@ use crate::room::{describe, hand_out_on};
 use nodes::Spacecraft;
 use std::alloc::Global;
 
-// The packet that is taken next: of those that came past the sequence control, or of the others.
+// The packet that is taken next: a bypass packet, or one of sequence-controlled frames.
 fn next_packet(node: &Spacecraft, past: bool) -> Option<(u8, &[u8])>
     ensures { option_map lent_packet result ≡ next_packet past node.now }
 {
@@ -49,8 +49,8 @@ fn described(
     })
 }
 
-/// Writes the MAP of the oldest packet of sequence-controlled frames, and the number of its octets, 7 to 65,542; or 0
-/// octets alone where none waits. Returns 0.
+/// Writes the MAP of the oldest packet of sequence-controlled frames, and the number of its octets, 7 to
+/// 65,542; or only 0 octets if none waits. Returns 0.
 #[unsafe(no_mangle)]
 pub extern "C" fn sedge_spacecraft_next(
     alloc: Global,
@@ -63,7 +63,8 @@ pub extern "C" fn sedge_spacecraft_next(
     described(alloc, spacecraft, false, map, count)
 }
 
-/// Writes the same of the oldest packet that came past the sequence control. Returns 0.
+/// Writes the MAP and the number of octets of the oldest bypass packet, as `sedge_spacecraft_next` does.
+/// Returns 0.
 #[unsafe(no_mangle)]
 pub extern "C" fn sedge_spacecraft_next_bypass(
     alloc: Global,
@@ -96,8 +97,8 @@ fn taken(
     })
 }
 
-/// Takes the oldest packet of sequence-controlled frames (232.0-B-4, 4.4): writes its MAP, the packet, and the number
-/// of its octets; or 0 octets alone where none waits. Returns 0 or `SEDGE_NODE_ROOM`.
+/// Takes the oldest packet of sequence-controlled frames (232.0-B-4, 4.4). Writes its MAP, the packet, and
+/// the number of its octets; or only 0 octets if none waits. Returns 0 or `SEDGE_NODE_ROOM`.
 #[unsafe(no_mangle)]
 #[must_use]
 pub extern "C" fn sedge_spacecraft_take(
@@ -113,8 +114,8 @@ pub extern "C" fn sedge_spacecraft_take(
     taken(alloc, spacecraft, false, map, out, count)
 }
 
-/// Takes the oldest packet that came past the sequence control (232.0-B-4, 4.4), as `sedge_spacecraft_take` does.
-/// Returns 0 or `SEDGE_NODE_ROOM`.
+/// Takes the oldest bypass packet (232.0-B-4, 4.4), as `sedge_spacecraft_take` does. Returns 0 or
+/// `SEDGE_NODE_ROOM`.
 #[unsafe(no_mangle)]
 #[must_use]
 pub extern "C" fn sedge_spacecraft_take_bypass(
@@ -147,8 +148,8 @@ fn reported(node: &mut Spacecraft, out: &mut [u8], count: &mut usize) -> u8
     0
 }
 
-/// Writes the next telemetry frame (132.0-B-3, 4.1), which reports on the receiver, and the number of its octets, which
-/// is frame_length. Returns 0 or `SEDGE_NODE_ROOM`.
+/// Writes the next telemetry frame (132.0-B-3, 4.1), which reports on the receiver, and the number of its
+/// octets, which is frame_length. Returns 0 or `SEDGE_NODE_ROOM`.
 #[unsafe(no_mangle)]
 #[must_use]
 pub extern "C" fn sedge_spacecraft_telemetry_frame(

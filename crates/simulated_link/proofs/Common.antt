@@ -1,4 +1,4 @@
--- The words that many of these proofs use.
+-- The names that many of these proofs use.
 pub use Rattle.std.proofs.Common.{◌≡◌, ℕ, ◌+◌, ◌≤◌, inl, inr, Bool, true, false, List, [], ◌∷◌, map, Some, None, sym}
 pub use Rattle.std.proofs.Common.{subst, arith, IfSome, refl, ap, ◌∙◌, option_map, ◌++◌, option_to_list, Option}
 pub use Rattle.std.proofs.Common.{Result, Ok, Err, if◌then◌else◌, append-nil, ◌<◌, take, drop, length, not, ◌≢◌, suc}

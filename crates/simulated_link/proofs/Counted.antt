@@ -1,4 +1,4 @@
--- What telemetry that arrives may do at the ground, and that what is in the sent queue was sent and not
+-- What arriving telemetry may do at the ground. The sent queue contains only units that were sent and are not
 -- acknowledged.
 use Rattle.simulated_link.proofs.Common.{◌≡◌, true, false, Option, None, Result, Ok, Err, refl, ◌==◌, cond_both, Clcw}
 use Rattle.simulated_link.proofs.Common.{ClcwFault, SegmentView, Alert, Idle, S1, S6, clcw_step, report_while_active}
@@ -26,7 +26,7 @@ use Rattle.nodes.specs.Ground as ground
 pub use Rattle.nodes.proofs.Owed.{IsConfirming, IsCause, AtEachState, reported}
 use Rattle.nodes.proofs.Owed.{without_mark}
 
--- What telemetry that arrives may do at the ground.
+-- What arriving telemetry may do at the ground.
 
 -- ---- the telemetry
 
@@ -35,7 +35,7 @@ pub record AtEachFrame (s : GroundState) (P : GroundState → Type 0) : Type 0 w
   pub extracts : (x : Extracted) → P (after_extraction s x)
   pub uses : (x : Extracted) (report : Clcw) → P (after_report (after_extraction s x) (clcw_step s.fop report))
 
--- of a report, which a frame carried or which came by itself
+-- for a CLCW, from a frame or by itself
 pub report_seen : (s : GroundState) (P : GroundState → Type 0) → P s
     → ((report : Clcw) → P (after_report s (clcw_step s.fop report))) → (r : Result Clcw ClcwFault)
     → P (report_outcome s r).after
@@ -54,7 +54,7 @@ module _ (s : GroundState) (P : GroundState → Type 0) (each : AtEachFrame s P)
       cond_both (is_own_telemetry s.config frame) _ _ (λ (o : GroundOutcome Heard). P o.after)
       (λ t. word_seen (extract_step s.extractor frame) (clcw_at frame.ocf)) (λ t. each.same)
 
--- What is acknowledged has left the sent queue, and what is in the sent queue was sent.
+-- Acknowledged units have left the sent queue, and the units in the sent queue were sent.
 
 -- ---- the sender's queue
 
@@ -88,7 +88,7 @@ module _ (f : FopState SegmentView) where
     sets = λ d k n ticks plain most. omega arith;
   })
 
--- ---- a pull: the queue gains at most the unit that is first sent
+-- ---- a pull: the queue gains at most the unit that is sent for the first time
 
 module _ (c : Config) (f : FopState SegmentView) where
   abbrev IsPutFirst : FopOutcome SegmentView (PulledUnit SegmentView) → Type 0
@@ -104,7 +104,7 @@ module _ (c : Config) (f : FopState SegmentView) where
         rw (eq-eqb f.vs f.vs refl) (omega (arith, length-append f.sent (unmarked_unit u ∷ [])));
   })
 
--- ---- a report: as many units leave the queue at least as NN(R) moves
+-- ---- a CLCW: at least as many units leave the queue as NN(R) moves
 
 module _ (f : FopState SegmentView) (fop : IsFop f) (octet : f.nn < 256) (r : Clcw) where
   abbrev IsGone : FopOutcome SegmentView (Option Alert) → Type 0
@@ -229,13 +229,13 @@ module _ (s : GroundState) (fop : IsFop s.fop) (octet : s.fop.nn < 256) where
         (report_gone s.fop fop octet report);
   })
 
-  -- when a control word arrives by itself
+  -- when a CLCW arrives by itself
   pub word_less : (r : Result Clcw ClcwFault) → IsLess (ground.report_outcome s r).after
   word_less = report_seen s IsLess (same_less s refl) (λ report.
       let o = clcw_step s.fop report in
       refilled_less (record (acknowledging s o) { fop = o.after }) (report_gone s.fop fop octet report))
 
--- ---- nothing is sent first where nothing goes
+-- ---- no unit is sent for the first time if no frame is sent
 
 pub nothing_first : (vs : ℕ) (o : Option command_layout.FrameView) → None ≡ option_map (spelling On) o
     → first_in vs o ≡ []

@@ -1,4 +1,4 @@
--- What is to be accepted on board is accepted, and delivered on its MAP after what the session delivered there.
+-- The segment to be accepted on board is accepted, and its packets follow those delivered on its MAP.
 use Rattle.simulated_link.proofs.Common.{◌≡◌, refl, sym, ap, ◌∙◌, map, option_map, ℕ, List, [], ◌++◌, option_to_list}
 use Rattle.simulated_link.proofs.Common.{Option, Some, None, append-nil, map-append, SegmentView, segment_octets}
 use Rattle.simulated_link.proofs.Common.{SpacecraftState, spacecraft_receive, limits_of, segment_to_accept, ◌≤◌, ◌∷◌}
@@ -8,9 +8,9 @@ use Rattle.simulated_link.proofs.Common.{assembled_begins, assembled-push, assem
 use Rattle.simulated_link.proofs.Common.{packets_accepted_on}
 use Rattle.nodes.proofs.Arrivals.{octets_come}
 
--- What is to be accepted is what is accepted.
+-- The segment to be accepted is the one that is accepted.
 
--- what is accepted when octets arrive
+-- the accepted segments after octets arrive
 pub accepts_segment : (s : SpacecraftState) (octets : List ℕ)
     → (spacecraft_receive s octets).after.accepted ≡ s.accepted ++ option_to_list (segment_to_accept s octets)
 accepts_segment s = octets_come s (λ o t. t.accepted ≡ s.accepted ++ option_to_list o) (record {
@@ -25,22 +25,22 @@ of_option : (x : Option SegmentView)
 of_option None = refl
 of_option (Some segment) = refl
 
--- so its data field goes after those that were accepted
+-- so its data field is appended to those that were accepted
 pub field_behind : (s : SpacecraftState) (octets : List ℕ) (fields : List (List ℕ)) (field : Option (List ℕ))
     → fields ≡ map segment_octets s.accepted → field ≡ option_map segment_octets (segment_to_accept s octets)
     → fields ++ option_to_list field ≡ map segment_octets (spacecraft_receive s octets).after.accepted
 field_behind s octets fields field before field_is =
     rw (before, field_is, of_option (segment_to_accept s octets), accepts_segment s octets) (sym (map-append _ _ _))
 
--- What is accepted on board is delivered on its MAP, after what the session delivered there.
+-- The packets of an accepted segment follow those that the session delivered on its MAP.
 
--- the configuration stays
+-- the configuration does not change
 pub config_stays : (s : SpacecraftState) (octets : List ℕ) → (spacecraft_receive s octets).after.config ≡ s.config
 config_stays s = octets_come s (λ o t. t.config ≡ s.config) assumption
 
 -- ---- what is delivered
 
--- on MAP m, where this many segments had been accepted when the session began
+-- on MAP m, if `before` segments had been accepted when the session began
 abbrev pub delivered_by : Config → ℕ → ℕ → List SegmentView → List (List ℕ)
 delivered_by c m before segments =
     drop (length (assembled (limits_of c) m (take before segments))) (assembled (limits_of c) m segments)

@@ -1,4 +1,4 @@
--- Lists of which the first octets or one place changes.
+-- Lists in which the first octets, or one element, change.
 use Rattle.simulated_link.proofs.Common.{◌≡◌, ◌≤◌, ℕ, List, ◌++◌, length, take, drop, ap, ◌∙◌, arith, length-append}
 use Rattle.simulated_link.proofs.Common.{length-drop, ◌<◌, zero, suc, ◌+◌, [], ◌∷◌, map, get_or, refl, sym, inl, inr}
 use Rattle.simulated_link.proofs.Common.{◌==◌, if◌then◌else◌, vec_len, vec_capacity, cases_eq, eq-eqb, ne_eqb}
@@ -9,7 +9,7 @@ use Rattle.std.specs.declared.vec.Vec.{Vec}
 use Rattle.std.proofs.Math.Seq.{map-set_same}
 use Rattle.simulated_link.specs.MapLists.{packets_at, HasRoom}
 
--- What was written over the first octets is the first octets.
+-- The octets written over the first ones are then the first ones.
 
 pub front_is : (n : ℕ) (out front old : List ℕ) → out ≡ front ++ drop n old → length out ≡ length old → n ≤ length old
     → take n out ≡ front
@@ -17,9 +17,9 @@ front_is n out front old written same within =
     ap (take n) written
     ∙ take_at front (drop n old) n (omega (arith, ap length written, length-append {A = ℕ}, length-drop n old))
 
--- Lists of packets for each MAP, one of which changes.
+-- The lists of packets for each MAP when one list changes.
 
--- where each list is empty
+-- if each list is empty
 pub none_at : {Y Z : Type 0} (lists : List (Vec (Vec ℕ Y) Z))
     → ((i : ℕ) (d : Vec (Vec ℕ Y) Z) → i < length lists → packets_view (get_or lists i d) ≡ []) → (m : ℕ)
     → packets_at lists m ≡ []
@@ -41,7 +41,7 @@ room_found (x ∷ xs) (suc i) d more lt h = room_found xs i d more (omega arith)
 
 module _ {Y Z : Type 0} (lists : List (Vec (Vec ℕ Y) Z)) (i m : ℕ) (d : Vec (Vec ℕ Y) Z) (is_map : i ≡ m)
     (within : i < length lists) where
-  -- packets went after those of a MAP
+  -- packets were appended to those of a MAP
   pub append_at : (new : Vec (Vec ℕ Y) Z) (packets : List (List ℕ))
       → packets_view new ≡ packets_view (get_or lists i d) ++ packets
       → (k : ℕ) → packets_at (set lists i new) k ≡ packets_at lists k ++ (if m == k then packets else [])
@@ -57,7 +57,7 @@ module _ {Y Z : Type 0} (lists : List (Vec (Vec ℕ Y) Z)) (i m : ℕ) (d : Vec 
             ∙ sym (append-nil (packets_at lists k)))
       ]
 
-  -- the packets of a MAP are as they were
+  -- the packets of a MAP did not change
   pub same_at : (new : Vec (Vec ℕ Y) Z) → packets_view new ≡ packets_view (get_or lists i d) → (k : ℕ)
       → packets_at (set lists i new) k ≡ packets_at lists k
   same_at new is k = ap (λ (xs : List (List (List ℕ))). get_or xs k []) (map-set_same packets_view lists i new d is)

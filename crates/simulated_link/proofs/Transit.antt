@@ -1,4 +1,4 @@
--- What lets an event happen, and the frames on a way.
+-- Lemmas on calls that run an event, and on frames in transit.
 use Rattle.simulated_link.proofs.Common.{◌≡◌, ◌≢◌, ◌≤◌, ◌<◌, ℕ, List, [], ◌∷◌, length, drop, refl, ap, sym, ◌∙◌, arith}
 use Rattle.simulated_link.proofs.Common.{subst, Result, Ok, Err, octets_of, Event, SimFault, World, world_step}
 use Rattle.std.proofs.Common.{IfErr, IfOk, IsOkUnless, slice_index_or, Vec, Global}
@@ -9,13 +9,13 @@ use Rattle.simulated_link.specs.Events.{LetsHappen, TakesNone}
 use Rattle.simulated_link.specs.Replies.{ReplyView, reply_view}
 use Rattle.simulated_link.specs.WorldFields.{world_of}
 
--- ---- the frames on a way
+-- ---- the frames in transit in one direction
 
 pub none_there : (way : List (Vec ℕ Global)) → length way ≤ 0 → octets_of way ≡ []
 none_there [] le = refl
 none_there (v ∷ vs) le = absurd (omega arith)
 
--- these octets are those of the first one
+-- these octets are those of the first frame in transit
 abbrev pub IsFirst : List ℕ → List (Vec ℕ Global) → Type 0
 IsFirst octets way = octets_of way ≡ octets ∷ octets_of (drop 1 way)
 
@@ -36,7 +36,7 @@ lacking (Ok reply) other = (tt, refl)
 lacking (Err fault) other = (ap Err (sym other), tt)
 
 module _ (s : Inside) (now : World) (view_is : world_of s ≡ now) (event : Event) where
-  -- it happens
+  -- the event happens
   pub happens : (reply : Reply) (new : World) → (world_step (world_of s) event).answer ≡ Ok (reply_view reply)
       → new ≡ (world_step (world_of s) event).after → LetsHappen event now new (Ok reply)
   happens reply new answer after =
@@ -49,7 +49,7 @@ module _ (s : Inside) (now : World) (view_is : world_of s ≡ now) (event : Even
         none = λ none is. cc is;
       })
 
-  -- there is no memory, and the event takes some
+  -- memory runs out, and the event takes some
   pub lacks : (new : World) → new ≡ now → IsOkUnless (world_step (world_of s) event).answer Memory
       → (TakesNone (world_of s) event → ⊥) → LetsHappen event now new (Err Memory)
   lacks new same other takes =

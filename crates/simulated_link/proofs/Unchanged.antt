@@ -1,4 +1,4 @@
--- What each event leaves as it is, and what is answered where the ground refuses packets.
+-- What each event leaves unchanged, and the answer if the ground refuses packets.
 use Rattle.simulated_link.proofs.Common.{◌≡◌, ℕ, List, [], ◌∷◌, Option, Some, None, Result, Ok, Err, refl, On, TcFault}
 use Rattle.simulated_link.proofs.Common.{TmFault, GroundState, ground_step, Event, SimFault, NotDetectable}
 use Rattle.simulated_link.proofs.Common.{replied_alert, Up, Down, World, WorldOutcome, world_refusal, world_reply}
@@ -44,7 +44,7 @@ use Rattle.simulated_link.specs.declared.reply.Reply.{Reply}
 use Rattle.simulated_link.specs.declared.reply.Reply.TheVariants as replies
 use Rattle.simulated_link.proofs.Counted.{frame_seen, report_seen}
 
--- What each event leaves as it is.
+-- What each event leaves unchanged.
 
 -- ---- frames that are lost or damaged
 
@@ -55,7 +55,7 @@ IsLoss events.DownLose = Unit {0}
 IsLoss (events.DownDamage octets) = Unit {0}
 IsLoss _ = ⊥
 
--- it is refused, or the first frame on its way is there no more, and nothing else changes
+-- the event is refused, or removes the first frame in transit, and nothing else changes
 pub record AtEachLoss (w : World) (P : WorldOutcome → Type 0) : Type 0 where
   pub refused : (fault : SimFault) → P (world_refusal w fault)
   pub up : (b : List ℕ) (bs : List (List ℕ)) → w.up ≡ b ∷ bs → (reply : ReplyView) → replied_alert reply ≡ None
@@ -63,7 +63,7 @@ pub record AtEachLoss (w : World) (P : WorldOutcome → Type 0) : Type 0 where
   pub down : (b : List ℕ) (bs : List (List ℕ)) → w.down ≡ b ∷ bs → (reply : ReplyView) → replied_alert reply ≡ None
       → P (world_reply reply (record w { down = bs }))
 
--- the first frame on a way, or none
+-- the first frame in transit, or none
 pub first_on : (P : WorldOutcome → Type 0) (step : List (List ℕ) → WorldOutcome) (way : List (List ℕ)) → P (step [])
     → ((b : List ℕ) (bs : List (List ℕ)) → way ≡ b ∷ bs → P (step (b ∷ bs))) → P (step way)
 first_on P step [] none each = none
@@ -106,7 +106,7 @@ module _ (w : World) (P : WorldOutcome → Type 0) where
   pulled_as next None each = each Nothing w.up w.session.sent refl
   pulled_as next (Some frame) each = each _ _ _ refl
 
-  -- the ground is as a pull leaves it, and the records but for what is sent
+  -- the ground is as a pull leaves it, and of the records only those of what was sent change
   pub pulled : ((reply : ReplyView) (up : List (List ℕ)) (sent : List (List ℕ)) → replied_alert reply ≡ None
       → P (world_reply reply (record w {
         ground_node = (ground_step w.ground_node ground.Pull).after;
@@ -127,7 +127,7 @@ module _ (w : World) (P : WorldOutcome → Type 0) where
       → P (world_step w events.DownDeliver)
   down_arrives none each = first_on P (down_deliver_step w) w.down none each
 
--- a control word arrives by itself
+-- a CLCW arrives by itself
 module _ (w : World) (P : WorldOutcome → Type 0) (each : AtEachLoss w P) where
   word_in : (b : List ℕ) (bs : List (List ℕ)) → w.down ≡ b ∷ bs
       → ((r : Result Clcw ClcwFault) → P (world_after_word w bs (report_outcome w.ground_node r)))
@@ -154,16 +154,16 @@ module _ (w : World) (value : ℕ) where
       (λ (o : GroundOutcome (Result ℕ LinkFault)). P (world_after_resuming w value o.answer))
       each (λ t. refused)
 
-  -- where it does not refuse
+  -- if the ground does not refuse
   pub resumed_after : can_resume w.ground_node value ≡ true
       → (world_step w (events.Resume value)).after ≡ resumed w value
   resumed_after can =
       ap (λ (o : GroundOutcome (Result ℕ LinkFault)). (world_after_resuming w value o.answer).after)
       (resumed_known w.ground_node value can).2
 
--- What an event may do, by its kind.
+-- What each kind of event may do.
 
--- the first frame on its way down is there no more
+-- the event removes the first frame in transit on the downlink
 abbrev pub TakesDown : Event → Type 0
 TakesDown events.DownDeliver = Unit {0}
 TakesDown events.DownClcw = Unit {0}
@@ -171,29 +171,29 @@ TakesDown events.DownLose = Unit {0}
 TakesDown (events.DownDamage octets) = Unit {0}
 TakesDown _ = ⊥
 
--- it brings a report, in its frame or by itself
+-- the event brings a CLCW, in a frame or by itself
 abbrev pub BringsReport : Event → Type 0
 BringsReport events.DownDeliver = Unit {0}
 BringsReport events.DownClcw = Unit {0}
 BringsReport _ = ⊥
 
--- packets that went past the sequence control are taken
+-- the event takes bypass packets
 abbrev pub TakesBypass : Event → Type 0
 TakesBypass events.TakeBypass = Unit {0}
 TakesBypass _ = ⊥
 
--- the first frame on its way down arrived, and the ground is another
+-- the world after the first downlink frame arrived, with another ground
 abbrev pub with_heard : World → GroundState → List (List ℕ) → World
 with_heard w t down =
     record w { ground_node = t; down = down; session = session_after_report w.session w.ground_node t }
 
 pub record AtEachStep (w : World) (e : Event) (P : World → Type 0) : Type 0 where
-  -- it is refused, or there is nothing to take
+  -- the event is refused, or there is nothing to take
   pub same : P w
-  -- the first frame on a way is there no more
+  -- the first frame in transit is removed
   pub up_gone : (b : List ℕ) (bs : List (List ℕ)) → w.up ≡ b ∷ bs → P (record w { up = bs })
   pub down_gone : (b : List ℕ) (bs : List (List ℕ)) → w.down ≡ b ∷ bs → TakesDown e → P (record w { down = bs })
-  -- a frame arrives on board, a report is sent, packets are taken there, or telemetry is queued
+  -- a frame arrives on board, a telemetry frame is sent, packets are taken, or telemetry is queued
   pub receives : e ≡ events.UpDeliver → (b : List ℕ) (bs : List (List ℕ)) → w.up ≡ b ∷ bs
       → P (record w { up = bs; spacecraft = (spacecraft_receive w.spacecraft b).after })
   pub reports : e ≡ events.Report → P (world_step w events.Report).after
@@ -207,7 +207,7 @@ pub record AtEachStep (w : World) (e : Event) (P : World → Type 0) : Type 0 wh
       → P (record w { spacecraft = record w.spacecraft { bypass = left } })
   pub queues : (octets : Bor (List ℕ)) → e ≡ events.Telemetry octets
       → P (record w { spacecraft = record w.spacecraft { builder = after_queue w.spacecraft.builder octets.now } })
-  -- the ground takes packets, obeys a directive, resumes, counts a tick, or sends a frame if there is one
+  -- the ground accepts packets, executes a directive, resumes, counts a tick, or sends a frame if there is one
   pub submits : (m : ℕ) (octets : List ℕ) → submit_fault w.ground_node m octets ≡ None
       → P (record w {
         ground_node = after_submission w.ground_node m octets;
@@ -225,7 +225,7 @@ pub record AtEachStep (w : World) (e : Event) (P : World → Type 0) : Type 0 wh
         up = up;
         session = record w.session { sent = sent };
       })
-  -- a frame, or a report by itself, came: the extractor and the packets are others, and the sender heard none, or it
+  -- a frame or only its CLCW arrived. The extractor and the packets may differ. The sender used no CLCW, or one.
   pub hears_none : (b : List ℕ) (bs : List (List ℕ)) → w.down ≡ b ∷ bs → BringsReport e → (x : ExtractorState)
       (packets : List (List ℕ))
       → P (with_heard w (record w.ground_node { extractor = x; telemetry = packets }) bs)
@@ -312,7 +312,7 @@ module _ (w : World) (P : World → Type 0) where
   stepped (events.DownDamage octets) each =
       lost w After (lost_so (events.DownDamage octets) tt each) (events.DownDamage octets) tt
 
--- ---- what becomes of one part of the world
+-- ---- what an event does to one part of the world
 
 pub record AtEachStepOnBoard (w : World) (e : Event) (P : SpacecraftState → Type 0) : Type 0 where
   pub same : P w.spacecraft
@@ -331,7 +331,7 @@ pub board_after : (w : World) (P : SpacecraftState → Type 0) (e : Event) → A
     → P (world_step w e).after.spacecraft
 board_after w P e each = stepped w (λ new. P new.spacecraft) e (assumption each)
 
--- the ground, and with it the records
+-- the ground, together with the records
 pub record AtEachStepOnGround (w : World) (e : Event) (P : GroundState → Session → Type 0) : Type 0 where
   pub same : P w.ground_node w.session
   pub submits : (m : ℕ) (octets : List ℕ) → submit_fault w.ground_node m octets ≡ None
@@ -363,7 +363,7 @@ ground_after w P e each =
     λ is up sent. each.sends is sent in
     stepped w (λ new. P new.ground_node new.session) e (assumption (sends, each))
 
--- what is on its way up, but for a frame that is sent, and what is on its way down, but for a report
+-- the frames in transit on the uplink, unless a frame is sent, and on the downlink, unless a CLCW is sent
 pub up_after : (w : World) (P : List (List ℕ) → Type 0) (e : Event) → e ≢ events.Send → P w.up
     → ((b : List ℕ) (bs : List (List ℕ)) → w.up ≡ b ∷ bs → P bs) → P (world_step w e).after.up
 up_after w P e other same gone =
@@ -387,9 +387,9 @@ down_after w P e other same gone =
     (packets : List (List ℕ)) (r : Clcw) → P bs = λ b bs is t x packets r. gone (brings_down e t) b bs is in
     stepped w (λ new. P new.down) e (assumption (reports, lost, heard, told, same))
 
--- Which events answer no alert.
+-- Which events raise no alert.
 
--- a directive, a tick, and a report that is heard may answer one
+-- a directive, a tick, and a CLCW that arrives may raise an alert
 abbrev pub MayAlert : Event → Type 0
 MayAlert (events.Directive d) = Unit {0}
 MayAlert events.Tick = Unit {0}
@@ -432,23 +432,23 @@ silent w e other = lost w IsSilent (record {
   down = λ b bs is reply none. none;
 }) e tt
 
--- where no session begins, the ground does not resume
+-- if no session begins, the ground does not resume
 pub not_restarted : {A : Type 0} (w : World) (e : Event) → BeginsNoSession w e → (value : ℕ) → e ≡ events.Resume value
     → can_resume w.ground_node value ≡ true → A
 not_restarted w e goes value is can =
     absurd (let refused : can_resume w.ground_node value ≡ false = subst (BeginsNoSession w) is goes in
     cc (can, refused))
 
--- What is answered where the ground refuses packets.
+-- The answer if the ground refuses packets.
 
 module _ (P : Result Reply SimFault → Type 0) where
-  -- any other fault than want of memory is a reply
+  -- any fault except Memory is a reply
   replied : (fault : LinkFault) → fault ≢ faults.Memory → P (Ok (replies.Refused (Link fault)))
       → P (answer_to_refusal fault)
   replied faults.Memory other reply = absurd (other refl)
   replied fault other reply = reply
 
-  -- the ground refuses for a reason, or for want of memory where it has none
+  -- the ground refuses for a reason or, if there is none, because memory runs out
   pub refused : {A : Type 0} (fault : LinkFault) (reason : Option LinkFault) (r : Result A LinkFault) → r ≡ Err fault
       → IfSome reason (λ f. r ≡ Err f) → (reason ≡ None → IsOkUnless r faults.Memory) → reason ≢ Some faults.Memory
       → ((IsSome reason → ⊥) → P (Err Memory)) → (reason ≡ Some fault → P (Ok (replies.Refused (Link fault))))
@@ -460,7 +460,7 @@ module _ (P : Result Reply SimFault → Type 0) where
       let so : f ≡ fault = cc (is, why) in
       rw same (replied fault (λ lacking. never (cc (so, lacking))) (each (ap Some so)))
 
--- where there is a reason, it is no want of memory
+-- the reason, if there is one, is not Memory
 or_else : (b : Bool) (fault : LinkFault) (reason : Option LinkFault) → fault ≢ faults.Memory
     → reason ≢ Some faults.Memory → (if b then Some fault else reason) ≢ Some faults.Memory
 or_else true fault reason other rest is = other (cc is)

@@ -1,4 +1,4 @@
--- What a segment that is accepted adds to the records.
+-- What an accepted segment adds to the records.
 use Rattle.std.specs.Prelude.{ℕ, List, Option, option_map}
 use Rattle.tc_frame.specs.Layout.{SegmentView, segment_octets}
 use Rattle.map_service.specs.Views.{packets_view}
@@ -7,7 +7,7 @@ use Rattle.nodes.specs.Arrival.{accepted_of}
 use Rattle.nodes.specs.Spacecraft.{SpacecraftState, assemble_step}
 use Rattle.simulated_link.specs.declared.acceptance.Acceptance.{Acceptance}
 
--- a data field, and on its MAP the packets that are ready with it
+-- a data field, its MAP, and the packets that it makes ready on this MAP
 pub record AcceptanceView : Type 0 where
   pub field : List ℕ
   pub on_map : ℕ
@@ -27,7 +27,7 @@ acceptance_view f = record {
   packets = packets_view f.packets;
 }
 
--- what is accepted of octets that have come
+-- what is accepted from octets that have arrived
 abbrev pub acceptance_in : Arrival → Option AcceptanceView
 acceptance_in a =
     option_map

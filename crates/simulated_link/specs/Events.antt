@@ -1,4 +1,4 @@
--- What an event answers, and which events take no memory.
+-- The answers to events, and which events take no memory.
 use Rattle.std.specs.Prelude.{◌≡◌, ◌≢◌, ℕ, List, [], ◌∷◌, false, Result, Ok, Err, IsSome}
 use Rattle.std.specs.Prelude.{IfOk, IfErr, OnOk, OnErr, IsOkUnless}
 use Rattle.tc_frame.specs.declared.frame.Check.TheVariants.{On}
@@ -15,17 +15,17 @@ use Rattle.simulated_link.specs.declared.reply.Reply.{Reply}
 use Rattle.simulated_link.specs.Replies.{reply_view}
 use Rattle.simulated_link.specs.World.{World, world_step}
 
--- the reply that the world answers to an event
+-- the world answers the event with this reply
 abbrev pub IsReplyTo : World → Event → Reply → Type 0
 IsReplyTo w event reply = (world_step w event).answer ≡ Ok (reply_view reply)
 
--- the first octets on their way, where there are any
+-- a statement about the first octets in transit; it holds if there are none
 abbrev pub IfFirst : List (List ℕ) → (List ℕ → Type 0) → Type 0
 IfFirst [] P = Unit {0}
 IfFirst (octets ∷ more) P = P octets
 
--- an event takes no memory: packets are refused, a frame's data are not handed on, a telemetry
--- frame finishes no packet, or nothing is to be kept
+-- An event takes no memory. Packets are refused, a frame's data are not passed on, a telemetry
+-- frame finishes no packet, or nothing is to be stored.
 abbrev pub TakesNone : World → Event → Type 0
 TakesNone w (events.Submit m octets) = IsSome (submit_fault w.ground_node m octets.now)
 TakesNone w (events.Bypass m octets) = IsSome (bypass_fault w.ground_node m octets.now)
@@ -39,8 +39,8 @@ TakesNone w events.DownDeliver =
 TakesNone w (events.Telemetry octets) = is_to_send octets.now ≡ false
 TakesNone w _ = Unit {0}
 
--- what a call that lets an event happen answers, and the world after it: the event has happened, or
--- it is refused, or there was no memory for it, and then nothing has changed
+-- The result of a call that runs an event, and the world before and after it. Either the event has
+-- happened, or it is refused, or memory ran out. In the last two cases nothing has changed.
 pub record LetsHappen (event : Event) (old new : World) (result : Result Reply SimFault) : Type 0
   where
     pub reply : IfOk result (IsReplyTo old event)

@@ -1,10 +1,10 @@
--- A simulated link's refusals: a row each.
+-- The faults of a simulated link, one row each.
 use Rattle.std.specs.Prelude.{ℕ, List, codes}
 use Rattle.simulated_link.specs.declared.fault.SimFault.{SimFault}
 use Rattle.simulated_link.specs.declared.fault.SimFault.TheVariants.{Memory, NothingInTransit}
 use Rattle.simulated_link.specs.declared.fault.SimFault.TheVariants.{NotDetectable, Config}
 
--- the number, and the name in ASCII
+-- the fault's number, and its name in ASCII
 abbrev pub fault_row : SimFault → ℕ × List ℕ
 fault_row Memory = (6, codes "Memory")
 fault_row NothingInTransit = (7, codes "NothingInTransit")

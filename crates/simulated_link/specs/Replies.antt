@@ -1,4 +1,4 @@
--- Replies without where their octets lie in memory, and the replies to what a node answers.
+-- Replies without their octets' places in memory, and the reply to each answer of a node.
 use Rattle.std.specs.Prelude.{ℕ, List, Option, Some, None, Result, Ok, Err}
 use Rattle.clcw.specs.declared.word.Clcw.{Clcw}
 use Rattle.cop1.specs.declared.fault.CopFault.{CopFault}
@@ -46,13 +46,13 @@ reply_view (replies.DownClcw heard) = DownClcw heard
 reply_view (replies.Resumed whole) = Resumed whole
 reply_view (replies.Packet m octets) = Packet (packet_on m octets.items)
 
--- ---- to what a node answers
+-- ---- the replies to the answers of a node
 
 abbrev pub reply_to_submission : Result (Unit {0}) LinkFault → ReplyView
 reply_to_submission (Ok done) = Done
 reply_to_submission (Err fault) = Refused (Link fault)
 
--- the ground's want of memory is the link's own
+-- if the ground is out of memory, the link answers its own fault Memory; other faults are replies
 abbrev pub answer_to_refusal : LinkFault → Result Reply SimFault
 answer_to_refusal link_faults.Memory = Err Memory
 answer_to_refusal fault = Ok (replies.Refused (Link fault))
@@ -73,7 +73,7 @@ abbrev pub reply_to_telemetry : Result (Unit {0}) TmFault → ReplyView
 reply_to_telemetry (Ok done) = Done
 reply_to_telemetry (Err fault) = Refused (Tm fault)
 
--- ---- the alert that is answered
+-- ---- the alert in a reply
 
 abbrev pub heard_alert : Heard → Option Alert
 heard_alert (heard_cases.Frame gap packets report alert) = alert

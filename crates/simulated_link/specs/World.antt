@@ -1,5 +1,5 @@
--- A simulated link: its world, and what each event answers and leaves. Each direction keeps its
--- order, and loses or damages frames only so that the receiver sees it.
+-- A simulated link: its world, and the answer and the final state of each event. Each direction
+-- keeps the order of frames, and loses or damages frames only detectably for the receiver.
 use Rattle.std.specs.Prelude.{◌≡◌, ◌⊎◌, option_map, ℕ, List, [], ◌∷◌, ◌++◌, length, take, drop, map}
 use Rattle.std.specs.Prelude.{flat_map, filter, Bool, true, false, ◌&&◌, ◌||◌, ◌==◌, if◌then◌else◌}
 use Rattle.std.specs.Prelude.{◌+◌, Option, Some, None, Result, Ok, Err}
@@ -56,21 +56,21 @@ use Rattle.simulated_link.specs.declared.reply.NodeFault.TheVariants.{Link}
 use Rattle.simulated_link.specs.Replies.{reply_to_submission, reply_to_directive, reply_to_alert}
 use Rattle.simulated_link.specs.Replies.{reply_to_taking, reply_to_telemetry}
 
--- the records of the session, which lasts until the next one begins; none has begun at first
+-- the records of the session, which lasts until the next one begins; at first none has begun
 pub record Session : Type 0 where
   pub opening : Option Opening
-  -- the ground has come from S4 or S5 to S1
+  -- a CLCW has taken the ground from S4 or S5 to S1
   pub confirmed : Bool
-  -- the octets of each submission that was accepted, with its MAP
+  -- the octets of each accepted submission, with its MAP
   pub submissions : List PacketOn
-  -- the data fields of Type-AD frames, in the order in which they were first sent; how many first
-  -- ones are acknowledged
+  -- the data fields of Type-AD frames, in the order in which they were first sent; how many of
+  -- them, from the first, are acknowledged
   pub sent : List (List ℕ)
   pub acknowledged : ℕ
   -- the number of segments that had been accepted on board when the session began
   pub before : ℕ
 
--- the two nodes, what is on its way between them, the oldest first, and the records
+-- the two nodes, the frames in transit in each direction, the oldest first, and the records
 pub record World : Type 0 where
   pub ground_node : GroundState
   pub spacecraft : SpacecraftState
@@ -78,7 +78,7 @@ pub record World : Type 0 where
   pub down : List (List ℕ)
   pub session : Session
 
--- what an event answers, and the world after it
+-- the answer to an event, and the world after it
 pub record WorldOutcome : Type 0 where
   pub answer : Result ReplyView SimFault
   pub after : World
@@ -114,31 +114,31 @@ submitted w m =
 abbrev pub accepted : World → List (List ℕ)
 accepted w = map segment_octets (drop w.session.before w.spacecraft.accepted)
 
--- what the segments accepted in the whole run give on a MAP
+-- the packets assembled on a MAP from segments, such as those accepted in the whole run
 abbrev pub assembled_on : World → ℕ → List SegmentView → List (List ℕ)
 assembled_on w m segments = assembled (limits_of w.spacecraft.config) m segments
 
--- the packets that are ready on board since the session began, taken or not
+-- the packets that became ready on board on a MAP since the session began, taken or not
 abbrev pub delivered : World → ℕ → List (List ℕ)
 delivered w m =
     drop (length (assembled_on w m (take w.session.before w.spacecraft.accepted)))
     (assembled_on w m w.spacecraft.accepted)
 
--- ---- what a session is
+-- ---- properties of a session
 
 -- the session began clean
 abbrev pub IsClean : World → Type 0
 IsClean w = option_map (λ (o : Opening). o.clean) w.session.opening ≡ Some true
 
--- it had an idle start
+-- the session had an idle start
 abbrev pub IsIdle : World → Type 0
 IsIdle w = option_map (λ (o : Opening). o.idle) w.session.opening ≡ Some true
 
--- the directive that began it
+-- the directive that began the session
 abbrev pub directive_of : World → Option Directive
 directive_of w = option_map (λ (o : Opening). o.directive) w.session.opening
 
--- a report has confirmed it, or it was begun without a check
+-- a CLCW has confirmed the session, or it began without CLCW check
 abbrev pub IsSettled : World → Type 0
 IsSettled w = (w.session.confirmed ≡ true) ⊎ (directive_of w ≡ Some InitWithoutCheck)
 
@@ -146,54 +146,55 @@ abbrev pub is_none : {A : Type 0} → List A → Bool
 is_none [] = true
 is_none (x ∷ xs) = false
 
--- nothing is on its way
+-- nothing is in transit in either direction
 abbrev pub is_quiet : World → Bool
 is_quiet w = is_none w.up && is_none w.down
 
--- an initiation may begin a clean session or one by an idle start, and without a check only where
--- V(R) = V(S)
+-- an initiation may begin a clean session or a session with an idle start; without CLCW check only
+-- if V(R) = V(S)
 abbrev pub may_begin : World → Directive → Bool
 may_begin w InitWithoutCheck = w.spacecraft.farm.vr == w.ground_node.fop.vs
 may_begin w directive = is_initiation directive
 
--- it begins a clean one in a quiet world
+-- an initiation begins a clean session in a quiet world
 abbrev pub begins_clean : World → Directive → Bool
 begins_clean w directive = may_begin w directive && is_quiet w
 
--- a report has the value and the flags of this one; its FARM-B may differ
+-- a CLCW has the value and the flags of this one; its FARM-B may differ
 abbrev pub says_as : Clcw → Result Clcw ClcwFault → Bool
 says_as now (Ok report) =
     (report.value == now.value) && (flags_number report.flags == flags_number now.flags)
 says_as now (Err fault) = false
 
--- a telemetry frame carries such a report
+-- a telemetry frame carries such a CLCW
 abbrev pub reports_as : Clcw → Result telemetry.FrameView TmFault → Bool
 reports_as now (Ok frame) = says_as now (clcw_at frame.ocf)
 reports_as now (Err fault) = false
 
--- what the receiver would report now
+-- the receiver's current CLCW
 abbrev pub report_now : World → Clcw
 report_now w = report_of w.spacecraft.farm w.spacecraft.config.vcid
 
--- nothing is on its way up, and each frame on its way down reports what the receiver would now
+-- nothing is in transit on the uplink, and each frame in transit on the downlink carries a CLCW
+-- with the receiver's current value and flags
 abbrev pub is_idle : World → Bool
 is_idle w =
     is_none w.up && list_all (λ (octets : List ℕ). reports_as (report_now w)
     (telemetry_reading.frame_at w.ground_node.config.frame_length octets)) w.down
 
--- an initiation begins a session by an idle start in such a world
+-- an initiation begins a session with an idle start in such a world
 abbrev pub begins_idle : World → Directive → Bool
 begins_idle w directive = may_begin w directive && is_idle w
 
--- no session begins with an event: it is no initiation, or it comes while the sender is not in S6;
--- or it is a resumption that is refused
+-- An event begins no session. It is neither an initiation nor a resumption, or an initiation while
+-- the sender is not in S6, or a refused resumption.
 abbrev pub BeginsNoSession : World → Event → Type 0
 BeginsNoSession w (events.Directive directive) =
     is_initiation directive ≡ true → is_closed w.ground_node.fop.state ≡ false
 BeginsNoSession w (events.Resume value) = can_resume w.ground_node value ≡ false
 BeginsNoSession w _ = Unit {0}
 
--- a session begins
+-- the records when a session begins
 abbrev pub session_begun : World → Opening → Session
 session_begun w opening = record {
   opening = Some opening;
@@ -204,7 +205,7 @@ session_begun w opening = record {
   before = length w.spacecraft.accepted;
 }
 
--- it begins with an initiation
+-- the records when an initiation begins a session
 abbrev pub session_begun_by : World → Directive → Session
 session_begun_by w directive =
     session_begun w (record {
@@ -218,7 +219,7 @@ is_initialising S4 = true
 is_initialising S5 = true
 is_initialising _ = false
 
--- a report takes the ground from S4 or S5 to S1
+-- a CLCW takes the ground from S4 or S5 to S1
 abbrev pub is_confirmation : FopMode → FopMode → Bool
 is_confirmation old S1 = is_initialising old
 is_confirmation old _ = false
@@ -231,7 +232,7 @@ world_refusal w fault = record { answer = Err fault; after = w }
 abbrev pub world_reply : ReplyView → World → WorldOutcome
 world_reply reply after = record { answer = Ok reply; after = after }
 
--- what comes of the first frame on a way and the frames after it; there has to be one
+-- the outcome for the first frame in transit and the frames after it; refused if there is none
 abbrev pub at_first : World → List (List ℕ) → (List ℕ → List (List ℕ) → WorldOutcome) → WorldOutcome
 at_first w [] outcome = world_refusal w NothingInTransit
 at_first w (octets ∷ way) outcome = outcome octets way
@@ -269,7 +270,7 @@ world_after_directive w directive o =
       session = session_after_directive w directive o.answer;
     })
 
--- a session goes on after an alert: V(S) is set to a report's value, and the next begins by Unlock
+-- a resumption after an alert: V(S) is set to a CLCW's value, and a session begins with Unlock
 
 abbrev pub directed : World → Directive → World
 directed w directive =
@@ -283,14 +284,14 @@ abbrev pub world_after_resuming : World → ℕ → Result ℕ LinkFault → Wor
 world_after_resuming w value (Ok whole) = world_reply (Resumed whole) (resumed w value)
 world_after_resuming w value (Err fault) = world_reply (Refused (Link fault)) w
 
--- the ground sends a frame; a Type-AD frame is first sent where V(S) is its number
+-- the ground sends a frame; a Type-AD frame is sent for the first time if its number is V(S)
 
 abbrev pub first_sent : ℕ → BodyView → List (List ℕ)
 first_sent vs (Ad n segment) = if n == vs then segment_octets segment ∷ [] else []
 first_sent vs (Bd segment) = []
 first_sent vs (Bc command) = []
 
--- of the frame that goes next, where one does
+-- the data field of the next frame, if there is one and it is sent for the first time
 abbrev pub first_in : ℕ → Option FrameView → List (List ℕ)
 first_in vs None = []
 first_in vs (Some frame) = first_sent vs frame.body
@@ -307,7 +308,7 @@ world_after_pull w after (Some frame) = world_reply (Sent (spelling On frame)) (
 abbrev pub world_after_send : World → GroundOutcome (Option FrameView) → WorldOutcome
 world_after_send w o = world_after_pull w o.after o.answer
 
--- the first frame on its way up arrives, is lost or is damaged
+-- the first frame in transit on the uplink arrives, is lost or is damaged
 
 abbrev pub world_after_receipt : World → List (List ℕ) → SpacecraftOutcome Received → WorldOutcome
 world_after_receipt w up o = world_reply (Up o.answer) (record w { up = up; spacecraft = o.after })
@@ -337,7 +338,8 @@ world_after_report w o =
       down = w.down ++ telemetry_writing.spelling o.answer ∷ [];
     })
 
--- the first frame on its way down arrives, is lost or is damaged; NN(R) counts what is acknowledged
+-- the first frame in transit on the downlink arrives, is lost or is damaged; the records count the
+-- acknowledged frames by NN(R)
 
 abbrev pub session_after_report : Session → GroundState → GroundState → Session
 session_after_report s old new = record s {
@@ -370,8 +372,8 @@ abbrev pub down_damage_step : World → List (List ℕ) → List ℕ → WorldOu
 down_damage_step w way damaged = at_first w way (λ octets down. down_damage_outcome w down
     (telemetry_reading.frame_at w.ground_node.config.frame_length damaged))
 
--- it arrives, and its control word alone reaches the ground, as from a front end that hands on
--- control words: what else it carries is as of a lost frame
+-- The first downlink frame arrives, but only its CLCW reaches the ground, as from a front end that
+-- forwards CLCWs. The frame's other contents are lost.
 
 abbrev pub world_after_word : World → List (List ℕ) → GroundOutcome HeardClcw → WorldOutcome
 world_after_word w down o =
@@ -381,7 +383,7 @@ world_after_word w down o =
       session = session_after_report w.session w.ground_node o.after;
     })
 
--- octets of no frame have no control word
+-- octets that do not form a valid frame have no CLCW
 abbrev pub down_word_outcome : World → List (List ℕ) → Result telemetry.FrameView TmFault
     → WorldOutcome
 down_word_outcome w down (Ok frame) =
@@ -393,7 +395,7 @@ abbrev pub down_clcw_step : World → List (List ℕ) → WorldOutcome
 down_clcw_step w way = at_first w way (λ octets down. down_word_outcome w down
     (telemetry_reading.frame_at w.ground_node.config.frame_length octets))
 
--- a tick passes, packets are taken on board, and telemetry is queued there
+-- a tick passes, a packet is taken on board, or telemetry is queued on board
 
 abbrev pub world_after_tick : World → GroundOutcome (Option Alert) → WorldOutcome
 world_after_tick w o = world_reply (reply_to_alert o.answer) (record w { ground_node = o.after })
@@ -436,7 +438,7 @@ world_step w events.TakeBypass =
 world_step w (events.Telemetry octets) =
     world_after_queueing w (spacecraft_step w.spacecraft (spacecraft_calls.Telemetry octets.now))
 
--- ---- a run: where it leads, and what it answers to each event
+-- ---- a run: the world after it, and the answer to each event
 
 abbrev pub world_run : World → List Event → World
 world_run w [] = w
@@ -447,7 +449,7 @@ run_answers w [] = []
 run_answers w (event ∷ more) =
     (world_step w event).answer ∷ run_answers (world_step w event).after more
 
--- no session begins with any of these events
+-- none of these events begins a session
 abbrev pub KeepsSession : World → List Event → Type 0
 KeepsSession w [] = Unit {0}
 KeepsSession w (event ∷ more) =

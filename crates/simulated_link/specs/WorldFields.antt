@@ -1,4 +1,4 @@
--- How the fields of a simulated link stand for its world.
+-- The world that the fields of a simulated link represent, and the invariant of the fields.
 use Rattle.std.specs.Prelude.{◌≡◌, ◌≤◌, ◌<◌, ◌==◌, ℕ, ◌+◌, List, [], map, length, if◌then◌else◌}
 use Rattle.std.specs.Prelude.{Option, Some, None}
 use Rattle.std.specs.declared.vec.Vec.{Vec}
@@ -32,18 +32,19 @@ world_of s = record {
   session = session_of s.session;
 }
 
--- what the fields keep to
+-- the invariant of the fields
 pub record IsSound (s : Inside) : Type 0 where
-  -- the data fields of all frames that were accepted
+  -- the data fields of all accepted Type-AD frames
   pub accepted : octets_of s.accepted.items ≡ map segment_octets s.spacecraft.accepted
   pub before : s.session.before ≤ length s.accepted.items
-  -- what is acknowledged and what is in the sent queue are different data fields that were sent
+  -- the acknowledged units and the units in the sent queue are together at most as many as the sent
+  -- data fields
   pub counted : s.session.acknowledged + length s.ground_node.fop.sent ≤ length s.session.sent.items
   -- the packets of the session on each MAP
   pub submitted_on : (m : ℕ) → packets_at s.session.submitted m ≡ submitted (world_of s) m
   pub delivered_on : (m : ℕ) → packets_at s.session.delivered m ≡ delivered (world_of s) m
 
--- the packets that are ready on a MAP with what is accepted
+-- the packets that an acceptance makes ready on a MAP
 abbrev pub packets_accepted_on : ℕ → Option AcceptanceView → List (List ℕ)
 packets_accepted_on m None = []
 packets_accepted_on m (Some more) = if more.on_map == m then more.packets else []

@@ -1,4 +1,4 @@
-// What a frame that is accepted adds to the records.
+// What an accepted frame adds to the records.
 
 ghost use Rattle.std.specs.Prelude.{◌≡◌, ◌<◌, None, Ok, IfOk, IfSome, IsOkUnless, option_map};
 ghost use Rattle.map_service.specs.Views.{packets_view};
@@ -9,8 +9,7 @@ ghost use Rattle.simulated_link.specs.Acceptance.{acceptance_view, acceptance_in
 use nodes::{Arrival, LinkFault, data_field_of};
 use std::alloc::{AllocError, Global};
 
-// The data field of a frame that is accepted, its MAP, and copies of the packets that are ready with
-// it.
+// The data field of an accepted frame, its MAP, and copies of the packets that the frame makes ready.
 #[derive(Drop)]
 pub(crate) struct Acceptance {
     pub(crate) field: Vec<u8>,

@@ -1,4 +1,4 @@
-// The next telemetry frame, written where there is room for it.
+// The next telemetry frame, written into memory that is already allocated.
 
 ghost use Rattle.std.specs.Prelude.{◌≡◌, ◌≤◌, []};
 ghost use Rattle.std.specs.Vec.{vec_capacity};

@@ -1,27 +1,27 @@
-// Why a simulated link answered no reply.
+// The faults of a simulated link.
 
 ghost use Rattle.std.specs.Prelude.{◌≡◌};
 
 use std::error::Error;
 use std::fmt::{self, Display, Formatter, Write};
 
-/// Why a simulated link answered no reply. It is as it was then.
+/// Why a simulated link returned no reply. The link is then unchanged.
 #[derive(Clone, Copy, Debug, PartialEq, Eq)]
 pub enum SimFault {
-    /// 6: there was no memory.
+    /// 6: the link is out of memory.
     Memory,
-    /// 7: no frame is on its way in this direction.
+    /// 7: no frame is in transit in this direction.
     NothingInTransit,
     /// 8: the receiver's decoder would accept the octets of the damaged frame.
     NotDetectable,
-    /// 9: this field of the configuration is out of its range.
+    /// 9: this field of the configuration is out of range.
     Config(&'static str),
 }
 
 impl SimFault {
     ghost use Rattle.simulated_link.specs.Faults.{fault_row};
 
-    /// The fault's number, 6 to 9.
+    /// Returns the fault's number, 6 to 9.
     pub fn number(self) -> u8
         ensures { result ≡ (fault_row self).0 }
     {
@@ -33,7 +33,7 @@ impl SimFault {
         }
     }
 
-    /// The fault's name, as it is written here.
+    /// Returns the fault's name, as spelled in this enumeration.
     pub fn name(self) -> &'static str
         ensures { result.now ≡ (fault_row self).1 }
     {

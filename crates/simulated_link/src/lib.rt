@@ -1,8 +1,8 @@
-//! A simulated telecommand link with COP-1 (CCSDS 232.0-B-4, 232.1-B-2), as docs/PROFILE.md has it.
+//! A simulated telecommand link with COP-1 (CCSDS 232.0-B-4, 232.1-B-2), as docs/PROFILE.md defines it.
 //!
-//! A `World` is both nodes with a link between them, which keeps its order in each direction, and
-//! loses or damages frames only so that the receiver sees it. Events happen to it, and it keeps records
-//! of the session. What is promised of a session stands in `tc_link`.
+//! A `World` contains both nodes and a link between them. The link keeps the order of frames in each
+//! direction, and loses or damages frames only detectably for the receiver. A `World` runs events, and
+//! keeps records of the session. `tc_link` states the promises about a session.
 #![tactic(auto)]
 
 mod acceptance;

@@ -9,7 +9,7 @@ ghost use Rattle.simulated_link.specs.MapLists.{packets_at, HasRoom};
 use std::alloc::{AllocError, Global};
 use std::array;
 
-// No packets.
+// Returns a list of no packets for each MAP.
 pub(crate) fn no_packets(alloc: Global) -> [Vec<Vec<u8>>; 64]
     ensures none { (m : ℕ) → packets_at result m ≡ [] }
     ensures maps { length result ≡ 64 }
@@ -26,7 +26,7 @@ pub(crate) fn packets_of(lists: &[Vec<Vec<u8>>; 64], map: u8) -> &[Vec<u8>]
     }
 }
 
-// Makes room for this many packets more on a MAP.
+// Makes room for this many more packets on a MAP.
 pub(crate) fn make_room(
     lists: &mut [Vec<Vec<u8>>; 64],
     map: u8,
@@ -39,7 +39,7 @@ pub(crate) fn make_room(
     lists[usize::from(map)].try_reserve(more)
 }
 
-// Puts packets, for which there is room, after those on their MAP.
+// Appends packets to those on their MAP. There must be room for them.
 pub(crate) fn append_on(lists: &mut [Vec<Vec<u8>>; 64], map: u8, packets: Vec<Vec<u8>>)
     requires map { map < 64 }
     requires room { HasRoom lists.old map (length packets.items) }

@@ -1,9 +1,9 @@
-// Octets that are copied to where there is room for them.
+// Copying of octets into memory that is already allocated.
 
 ghost use Rattle.std.specs.Prelude.{◌≡◌, ◌≤◌, ◌++◌, [], length, take};
 ghost use Rattle.std.specs.Vec.{vec_capacity};
 
-// Copies the first octets.
+// Copies the first `size` octets.
 pub(crate) fn copy_front(to: &mut Vec<u8>, octets: &[u8], size: usize)
     requires empty { to.old.items ≡ [] }
     requires size { size ≤ length octets.now }

@@ -1,4 +1,4 @@
-// What is answered where the ground refuses packets.
+// The answer of the link if the ground refuses packets.
 
 ghost use Rattle.std.specs.Prelude.{◌≡◌};
 ghost use Rattle.simulated_link.specs.Replies.{answer_to_refusal};
@@ -7,7 +7,7 @@ use crate::fault::SimFault;
 use crate::reply::{NodeFault, Reply};
 use nodes::LinkFault;
 
-// A node's want of memory is the link's own; any other refusal is a reply.
+// Returns the link's own fault Memory if a node is out of memory, and a reply for any other refusal.
 pub(crate) fn answer_to_refusal(fault: LinkFault) -> Result<Reply, SimFault>
     ensures { result ≡ answer_to_refusal fault }
 {

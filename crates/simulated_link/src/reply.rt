@@ -1,4 +1,4 @@
-// What a simulated link answers.
+// The replies of a simulated link.
 
 use clcw::Clcw;
 use cop1::{Alert, CopFault};
@@ -6,10 +6,10 @@ use nodes::{Heard, HeardClcw, LinkFault, Received};
 use thiserror::Error;
 use tm_link::TmFault;
 
-/// What a simulated link answers to an event.
+/// The reply of a simulated link to an event.
 #[derive(Debug, PartialEq, Eq, Drop)]
 pub enum Reply {
-    /// It is done.
+    /// The event is done.
     Done,
     /// There was nothing to send or to take.
     Nothing,
@@ -21,21 +21,21 @@ pub enum Reply {
     Alert(Alert),
     /// The ground sent this frame.
     Sent(Vec<u8>),
-    /// The spacecraft sent a frame with this report.
+    /// The spacecraft sent a telemetry frame with this CLCW.
     Reported(Clcw),
-    /// The spacecraft received.
+    /// The spacecraft received octets, with this result.
     Up(Received),
-    /// The ground received.
+    /// The ground received octets, with this result.
     Down(Heard),
-    /// A CLCW reached the ground by itself.
+    /// A CLCW reached the ground by itself, with this result.
     DownClcw(HeardClcw),
-    /// The ground has resumed; so many submissions of the session that ended are on board.
+    /// The ground has resumed. This many submissions of the session that ended are on board whole.
     Resumed(u64),
-    /// A packet was taken, which came on this MAP.
+    /// A packet was taken, with its MAP.
     Packet(u8, Vec<u8>),
 }
 
-/// Why a node refused a call, as the part of it that refused.
+/// Why a node refused a call, by the part of the node that refused it.
 #[derive(Clone, Copy, Debug, Error, PartialEq, Eq)]
 pub enum NodeFault {
     /// The node itself.

@@ -13,6 +13,6 @@ pub(crate) struct Session {
     pub(crate) delivered: [Vec<Vec<u8>>; 64],
     pub(crate) sent: Vec<Vec<u8>>,
     pub(crate) acknowledged: usize,
-    // As many segments had been accepted on board when it began.
+    // The number of segments that had been accepted on board when the session began.
     pub(crate) before: usize,
 }

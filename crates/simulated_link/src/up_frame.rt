@@ -1,4 +1,4 @@
-// The frame that goes up next, with what is kept of it.
+// The next uplink frame, with what the records keep of it.
 
 ghost use Rattle.std.specs.Prelude.{◌≡◌, true, IfOk, IfSome, IsOkUnless, option_map, option_to_list};
 ghost use Rattle.std.specs.Option.{is_some};
@@ -13,7 +13,7 @@ use nodes::{Ground, data_field_of};
 use std::alloc::Global;
 use tc_frame::{Body, Check, encode};
 
-// The octets of a frame, a copy of them for the answer, and the data field where it is first sent.
+// The octets of a frame, a copy of them for the reply, and the data field if it is sent for the first time.
 #[derive(Drop)]
 pub(crate) struct Outgoing {
     pub(crate) octets: Vec<u8>,
@@ -21,7 +21,7 @@ pub(crate) struct Outgoing {
     pub(crate) field: Option<Vec<u8>>,
 }
 
-// The frame that the ground sends next, where there is one.
+// Returns the frame that the ground sends next, if there is one.
 pub(crate) fn next_frame(alloc: Global, ground_node: &Ground) -> Result<Option<Outgoing>, SimFault>
     ensures octets { IfOk result (λ some. option_map (λ o. o.octets.items) some
         ≡ option_map (spelling On) (ground_step ground_node.now Pull).answer) }
@@ -51,7 +51,7 @@ pub(crate) fn next_frame(alloc: Global, ground_node: &Ground) -> Result<Option<O
     }))
 }
 
-// The data field, where V(S) is the frame's number, so that it is first sent.
+// Returns the data field of a Type-AD frame if its number is V(S): it is then sent for the first time.
 fn first_sent(alloc: Global, vs: u8, body: &Body<'_>) -> Result<Option<Vec<u8>>, SimFault>
     requires { body_fits (body_view body.now) ≡ true }
     ensures field { IfOk result (λ some. option_to_list (option_map (λ v. v.items) some)

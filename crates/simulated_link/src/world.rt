@@ -16,8 +16,8 @@ use std::alloc::Global;
 use std::collections::VecDeque;
 use std::marker::Model;
 
-/// Two nodes, what is on its way between them, and the records of the session, which begins with each
-/// initiation directive that the ground accepts.
+/// Two nodes, the frames in transit between them, and the records of the session. A session begins with
+/// each initiation directive that the ground accepts.
 #[derive(Drop)]
 pub struct World {
     alloc: Global,
@@ -26,7 +26,7 @@ pub struct World {
     up: VecDeque<Vec<u8>>,
     down: VecDeque<Vec<u8>>,
     session: Session,
-    // The data fields that were accepted in the whole run.
+    // The data fields accepted in the whole run.
     accepted: Vec<Vec<u8>>,
 }
 
@@ -48,7 +48,7 @@ impl World {
     ghost use Rattle.nodes.specs.Packets.{packet_view};
     ghost use Rattle.simulated_link.specs.World.{new_world, submitted, accepted, delivered};
 
-    /// Two new nodes, and nothing between them.
+    /// Returns two new nodes, with nothing in transit.
     /// Faults: 6 Memory. Memory: yes.
     pub fn new(alloc: Global, config: &ValidConfig) -> Result<World, SimFault>
         ensures made { IfOk result (λ world. world ≡ new_world config.now) }
@@ -80,71 +80,71 @@ impl World {
         })
     }
 
-    /// The node on the ground.
+    /// Returns the ground node.
     pub fn ground_node(&self) -> &Ground
         ensures { result.now ≡ self.now.ground_node }
     {
         &self.ground_node
     }
 
-    /// The node on board.
+    /// Returns the node on board.
     pub fn spacecraft(&self) -> &Spacecraft
         ensures { result.now ≡ self.now.spacecraft }
     {
         &self.spacecraft
     }
 
-    /// How the session began. None before any.
+    /// Returns how the session began, or None before the first session.
     pub fn opening(&self) -> Option<Opening>
         ensures { result ≡ self.now.session.opening }
     {
         self.session.opening
     }
 
-    /// Whether a report has taken the ground from S4 or S5 to S1 in the session.
+    /// Returns whether a CLCW has taken the ground from S4 or S5 to S1 in the session.
     pub fn confirmed(&self) -> bool
         ensures { result ≡ self.now.session.confirmed }
     {
         self.session.confirmed
     }
 
-    /// The octets of each submission that was accepted in the session, with its MAP.
+    /// Returns the octets of each submission accepted in the session, with its MAP.
     pub fn submissions(&self) -> &[(u8, Vec<u8>)]
         ensures { map packet_view result.now ≡ self.now.session.submissions }
     {
         self.session.submissions.as_slice()
     }
 
-    /// The packets of these submissions on a MAP, in their order; above MAP 63 there are none.
+    /// Returns the packets of these submissions on a MAP, in order. There are none above MAP 63.
     pub fn submitted(&self, map: u8) -> &[Vec<u8>]
         ensures { octets_of result.now ≡ submitted self.now map }
     {
         packets_of(&self.session.submitted, map)
     }
 
-    /// The packets that are ready on board on a MAP since the session began, taken or not, in their
-    /// order; above MAP 63 there are none.
+    /// Returns the packets that became ready on board on a MAP since the session began, in order, taken or
+    /// not. There are none above MAP 63.
     pub fn delivered(&self, map: u8) -> &[Vec<u8>]
         ensures { octets_of result.now ≡ delivered self.now map }
     {
         packets_of(&self.session.delivered, map)
     }
 
-    /// The data fields of the session's Type-AD frames, in the order in which they were first sent.
+    /// Returns the data fields of the session's Type-AD frames, in the order in which they were first sent.
     pub fn sent(&self) -> &[Vec<u8>]
         ensures { octets_of result.now ≡ self.now.session.sent }
     {
         self.session.sent.as_slice()
     }
 
-    /// How many of the first ones of `sent` the ground holds acknowledged.
+    /// Returns how many data fields of `sent`, from the first, are acknowledged as far as the ground knows.
     pub fn acknowledged(&self) -> usize
         ensures { result ≡ self.now.session.acknowledged }
     {
         self.session.acknowledged
     }
 
-    /// The data fields of the Type-AD frames that were accepted on board since the session began.
+    /// Returns the data fields of the Type-AD frames accepted on board since the session began.
     pub fn accepted(&self) -> &[Vec<u8>]
         ensures { octets_of result.now ≡ accepted self.now }
     {

@@ -1,5 +1,5 @@
-//! What goes on for long, and what is long, where memory is ample: no call may answer that there was none, and
-//! what goes in comes out. The accounts of memory are kept of it (`accounts`).
+//! Tests of long runs and long data with ample memory. No call may answer that it is out of memory, and what
+//! goes in must come out. `accounts` keeps the bookkeeping of memory.
 #![tactic(auto)]
 
 #[cfg(test)]

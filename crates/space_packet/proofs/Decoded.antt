@@ -1,4 +1,4 @@
--- Packets: what is read is spelled so, and what is spelled so is read.
+-- Packets are read exactly as they are spelled.
 use Rattle.std.proofs.Common.{◌≡◌, ◌<◌, ◌≤◌, ℕ, zero, suc, ◌+◌, ◌/◌, ◌%◌, false, eqb, ltb, List, [], ◌∷◌, ◌++◌, length}
 use Rattle.std.proofs.Common.{take, drop, Result, Ok, Err, refl, sym, ap, subst, ◌∙◌, arith}
 use Rattle.std.specs.Prelude.{IfOk}
@@ -93,7 +93,7 @@ record_is b octets h =
     let made = made_is b (length b) octets (extent_is (take 6 b) (length b) h.extent_is) (omega arith) in
     (_, subst (IsPacket _) (take_all (length b) b (omega arith)) made)
 
--- so are all records that stand one after another
+-- so are all records one after another
 pub records_are : (records : List (List ℕ)) → IsOctets (concat records) → AllByRecursion (IsRecord 6 extent_at) records
     → AllByRecursion IsSomePacket records
 records_are [] octets h = tt
@@ -132,7 +132,7 @@ packet_again b p n h =
     let sequence : number_of (take 2 (drop 2 b)) % 16384 ≡ p.count = omega arith in
     rw (long, extent, whole, bit, kind.0, flag, secondary.0, apid, flags, sequence, h.spells.rest) refl
 
--- what a decoder answered
+-- what a decoder returned
 pub is_found : (b : List ℕ) (r : Result (Packet × ℕ) PacketFault) → IsOctets b → map_ok found_view r ≡ packet_at b
     → IfOk r (λ f. IsFirstPacket (packet_view f.0) f.1 b)
 is_found b (Ok f) octets h = packet_is b (packet_view f.0) f.1 octets (sym h)

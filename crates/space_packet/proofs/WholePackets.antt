@@ -1,4 +1,4 @@
--- What a decoder says of octets as whole packets.
+-- How a decoder reads octets as whole packets.
 use Rattle.std.proofs.Common.{◌≡◌, ◌≤◌, ◌<◌, ℕ, suc, Bool, true, false, cond, ltb, eqb, List, [], ◌∷◌, ◌++◌, length}
 use Rattle.std.proofs.Common.{take, drop, Option, Some, None, Result, Ok, Err, refl, sym, ap, subst, ◌∙◌, arith, inl}
 use Rattle.std.proofs.Common.{inr, length-take, length-drop}
@@ -17,7 +17,7 @@ use Rattle.space_packet.specs.Packets.{first_packet, packets_in, rest_in, is_pac
 use Rattle.space_packet.specs.Decoding.{extent_at, packet_at, packet_of}
 use Rattle.space_packet.proofs.Decoded.{record_is, record_again}
 
--- how many octets the packet has that was read
+-- the number of octets of the packet that was read
 abbrev pub len_of : Result (PacketView × ℕ) PacketFault → Option ℕ
 len_of (Ok f) = Some f.1
 len_of (Err e) = None
@@ -40,7 +40,7 @@ first_at : (octets : List ℕ) (e : PacketFault) (b : Bool)
 first_at octets e true = refl
 first_at octets e false = first_of octets (extent_at (take 6 octets))
 
--- the packet that octets begin with is that which is read
+-- the packet that octets begin with is the one that is read
 pub first_is : (octets : List ℕ) → option_map (λ k. take k octets) (len_of (packet_at octets)) ≡ first_packet octets
 unfolding packet_at
 first_is octets = sym (first_at octets _ (ltb (length octets) 6))
@@ -75,7 +75,7 @@ no_more octets h =
 not_none : (n : ℕ) (b : Bool) → eqb (suc n) 0 && b ≡ false
 not_none n b = rw (ne_eqb (suc n) 0 (λ (e : suc n ≡ 0). omega arith)) refl
 
--- octets that aren't none are packets or are left
+-- a nonempty list of octets has a packet or a rest
 pub is_something : (octets : List ℕ) (o : Option (List ℕ)) → first_packet octets ≡ o → 0 < length octets
     → eqb (length (packets_in octets)) 0 && eqb (length (rest_in octets)) 0 ≡ false
 is_something octets None e lt =
@@ -107,7 +107,7 @@ is_packet-more octets p e lt =
 pub is_packet-none : (octets : List ℕ) → first_packet octets ≡ None → is_packet octets ≡ false
 is_packet-none octets e = let h = no_more octets e in rw (h.0) refl
 
--- the packet that octets begin with is all of them, or not
+-- the packet that octets begin with is all of the octets, or not
 pub is_packet-by_len : (octets : List ℕ) (n : ℕ) → Some (take n octets) ≡ first_packet octets → n ≤ length octets
     → eqb n (length octets) ≡ is_packet octets
 is_packet-by_len octets n e le =
@@ -119,7 +119,7 @@ is_packet-by_len octets n e le =
           ∙ sym (is_packet-all octets (take n octets) (sym e) (omega arith))
     ]
 
--- the same, where the first packet is given by its length
+-- the same, if the first packet is given by its length
 pub one_more-by_len : (octets : List ℕ) (n : ℕ) → Some (take n octets) ≡ first_packet octets → n ≤ length octets
     → (packets_in octets ≡ take n octets ∷ packets_in (drop n octets)) × (rest_in octets ≡ rest_in (drop n octets))
 one_more-by_len octets n e le =
@@ -147,11 +147,11 @@ record_by octets (Some p) e h =
           first.0
     ]
 
--- they spell one
+-- octets that are judged to be one packet spell one
 pub packet_from : (octets : List ℕ) → IsOctets octets → is_packet octets ≡ true → IsSomePacket octets
 packet_from octets fits h = record_is octets fits (record_by octets (first_packet octets) refl h)
 
--- octets that spell a packet are one
+-- octets that spell a packet are judged to be one packet
 pub is_packet-again : (octets : List ℕ) → IsSomePacket octets → is_packet octets ≡ true
 is_packet-again octets h =
     let found : first_record 6 extent_at octets ≡ Some (Ok octets) =

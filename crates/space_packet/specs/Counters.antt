@@ -10,12 +10,12 @@ IsCounts counts = (apid : ℕ) → slice_index counts apid < 16384
 abbrev pub counts_after : List ℕ → ℕ → List ℕ
 counts_after counts apid = slice_set counts apid ((slice_index counts apid + 1) % 16384)
 
--- how many packets are missing: (count - last - 1) modulo 16,384; 65,536 is a multiple of it, and
--- keeps this from falling below 0
+-- the number of missing packets: (count - last - 1) modulo 16,384; adding 65,536, a multiple of
+-- 16,384, keeps the difference from falling below 0
 abbrev pub gap_between : ℕ → ℕ → ℕ
 gap_between last count = (count + 65536 - last - 1) % 16384
 
--- the same, where a count was seen
+-- the same, if a count was seen
 abbrev pub gap_after : Option ℕ → ℕ → Option ℕ
 gap_after None count = None
 gap_after (Some last) count = Some (gap_between last count)

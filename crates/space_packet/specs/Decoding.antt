@@ -9,12 +9,12 @@ use Rattle.space_packet.specs.declared.fault.PacketFault.{PacketFault}
 use Rattle.space_packet.specs.declared.fault.PacketFault.TheVariants as faults
 use Rattle.space_packet.specs.Layout.{PacketView, packet_view, is_idle_with_secondary}
 
--- a packet and how many octets it takes, without where its payload lies in memory
+-- a packet and its number of octets, without the place of its payload in memory
 abbrev pub found_view : Packet × ℕ → PacketView × ℕ
 found_view f = (packet_view f.0, f.1)
 
--- how many octets the packet has that begins with this header (CCSDS 133.0-B-2, 4.1.3), or why none
--- does
+-- the number of octets of the packet that begins with this header (CCSDS 133.0-B-2, 4.1.3), or why
+-- no packet begins with it
 unfoldable pub extent_at : List ℕ → Result ℕ PacketFault
 extent_at head =
     let first : ℕ = number_of (take 2 head) in
@@ -37,7 +37,7 @@ packet_with first second payload = record {
   payload = payload;
 }
 
--- the packet of this extent, where its octets are all there
+-- the packet of this extent, if its octets are all there
 abbrev pub packet_of : List ℕ → Result ℕ PacketFault → Result (PacketView × ℕ) PacketFault
 packet_of b (Err e) = Err e
 packet_of b (Ok n) =

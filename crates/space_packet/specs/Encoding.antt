@@ -28,14 +28,14 @@ header_octets p =
 abbrev pub spelling : PacketView → List ℕ
 spelling p = header_octets p ++ p.payload
 
--- each field is in its range, and an idle packet has no secondary header
+-- each field is in range, and an idle packet has no secondary header
 abbrev pub packet_fits : PacketView → Bool
 packet_fits p =
     nat_lt p.apid 2048 && nat_lt p.flags 4 && nat_lt p.count 16384 && nat_lt 0 (length p.payload)
     && nat_le (length p.payload) 65536
     && not (is_idle_with_secondary p.apid p.secondary)
 
--- how many octets are written where there is room for this many, or why none are
+-- the number of octets that are written if there is room for this many, or why none are written
 abbrev pub encode_answer : PacketView → ℕ → Result ℕ PacketFault
 encode_answer p room =
     count_written (packet_fits p) (total_of p) room faults.FieldRange faults.Room

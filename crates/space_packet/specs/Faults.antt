@@ -1,4 +1,4 @@
--- The refusals of space packets: a row each.
+-- The faults of space packets, one row each.
 use Rattle.std.specs.Prelude.{ℕ, List, codes}
 use Rattle.space_packet.specs.declared.fault.PacketFault.{PacketFault}
 use Rattle.space_packet.specs.declared.fault.PacketFault.TheVariants.{Truncated, Version}

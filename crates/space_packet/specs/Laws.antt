@@ -28,7 +28,7 @@ pub record IsSpelling (p : PacketView) (b : List ℕ) : Type 0 where
 
 -- Packets on a stream: the laws of their layout.
 
--- what a header says whose extent isn't refused
+-- what a header declares if its extent is not refused
 pub record HasExtent (head : List ℕ) (n : ℕ) : Type 0 where
   pub version : number_of (take 2 head) / 8192 ≡ 0
   pub idle : is_idle_with_secondary (number_of (take 2 head) % 2048)
@@ -53,7 +53,7 @@ extent_is head n h =
       total = ok_is {F = PacketFault} total n plain.1;
     }
 
--- a packet has its header
+-- an accepted extent includes the header
 pub extent_has_header : (head : List ℕ) (n : ℕ) → extent_at head ≡ Ok n → 6 ≤ n
 extent_has_header head n h = let has = extent_is head n h in omega arith
 
@@ -77,7 +77,7 @@ two_within b n k le =
 pub payload_length : (p : PacketView) (b : List ℕ) → IsPacket p b → length b ≡ 6 + length p.payload
 payload_length p b h = omega (arith, length-drop 6 b, ap length h.rest, h.least)
 
--- the octets of a packet have its header, which declares their number
+-- the octets of a packet begin with its header, which declares their number
 pub own_extent_of : (p : PacketView) (b : List ℕ) → IsPacket p b
     → (6 ≤ length b) × (extent_at (take 6 b) ≡ Ok (length b))
 unfolding extent_at
@@ -93,7 +93,7 @@ own_extent_of p b h =
     let total : number_of (take 2 (drop 4 b)) + 7 ≡ length b = omega arith in
     (omega arith, rw (front, size, version, apid, flag, secondary.0, h.idle, total) refl)
 
--- two octets from a place on are those of their number
+-- two octets from a place on are the octets of their number
 pub two_at : (b : List ℕ) (k : ℕ) → k + 2 ≤ length b → IsOctets b
     → take 2 (drop k b) ≡ big_bytes 2 (number_of (take 2 (drop k b)))
 two_at b k long octets =

@@ -6,7 +6,7 @@ use Rattle.space_packet.specs.declared.packet.PacketKind.{PacketKind}
 use Rattle.space_packet.specs.declared.packet.PacketKind.TheVariants.{Telemetry, Telecommand}
 use Rattle.space_packet.specs.declared.packet.Packet.{Packet}
 
--- a packet without where its payload lies in memory
+-- a packet without the place of its payload in memory
 pub record PacketView : Type 0 where
   pub kind : PacketKind
   pub secondary : Bool
@@ -70,7 +70,7 @@ pub record IsPacket (p : PacketView) (b : List ℕ) : Type 0 where
 abbrev pub IsSomePacket : List ℕ → Type 0
 IsSomePacket b = (p : PacketView) × IsPacket p b
 
--- The first n of the octets b spell the packet p; what follows them doesn't matter.
+-- The first n of the octets b spell the packet p, whatever follows them.
 pub record IsFirstPacket (p : PacketView) (n : ℕ) (b : List ℕ) : Type 0 where
   pub within : n ≤ length b
   pub spells : IsPacket p (take n b)

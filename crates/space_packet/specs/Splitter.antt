@@ -1,4 +1,4 @@
--- What a splitter of packets holds.
+-- What a splitter of packets contains.
 use Rattle.std.specs.Prelude.{ℕ, List, Option, Result}
 use Rattle.std.specs.Borrow.{Fml, MutBor}
 use Rattle.octets.specs.Splitter.{Held, held}
@@ -10,6 +10,6 @@ use Rattle.space_packet.specs.declared.splitter.PacketSplitter.{PacketSplitter}
 abbrev pub held_in : PacketSplitter → Held PacketFault
 held_in s = held s.0
 
--- once what the answer lends is let go
+-- what the splitter is once the loan of the answer has ended
 abbrev pub EndsAfter : MutBor PacketSplitter → Option (Result (List ℕ) PacketFault) → Fml
 EndsAfter s answer = lending.EndsAfter the_row s held_in answer

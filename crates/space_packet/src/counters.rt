@@ -6,7 +6,7 @@ ghost use Rattle.space_packet.specs.Counters.{IsCounts, counts_after};
 use std::marker::Model;
 
 /// The next sequence count of each application process, from 0 and modulo 16,384 (CCSDS 133.0-B-2,
-/// 4.1.3.4.3). In contracts it is the list of the counts by APID.
+/// 4.1.3.4.3). Contracts see it as the list of the counts by APID.
 #[derive(Drop)]
 pub struct SequenceCounters {
     counts: [u16; 2048],
@@ -21,15 +21,15 @@ impl Model for SequenceCounters {
 }
 
 impl SequenceCounters {
-    /// All counts are 0. It takes no memory.
+    /// Returns counters that are all 0. They take no memory.
     pub fn new() -> Self
         ensures { result ≡ replicate 2048 0 }
     {
         SequenceCounters { counts: [0; 2048] }
     }
 
-    /// The count for the next packet of this APID; the one after it is held then (CCSDS 133.0-B-2,
-    /// 4.1.3.4.3). No other APID's count changes.
+    /// Returns the count for the next packet of this APID, and advances this APID's count by one
+    /// (CCSDS 133.0-B-2, 4.1.3.4.3). No other APID's count changes.
     pub fn next(&mut self, apid: u16) -> u16
         requires { apid < 2048 }
         ensures count { result ≡ slice_index self.old apid }

@@ -9,16 +9,16 @@ use crate::fault::PacketFault;
 use crate::packet::{Packet, PacketKind, is_idle_apid};
 use octets::{first_two, low_eleven};
 
-/// Reads the packet that the octets begin with (CCSDS 133.0-B-2, 4.1), and says how many octets it has.
-/// It borrows its data from them. What follows it is not looked at. Refuses fewer than 6 octets by 1
-/// `Truncated`, a version other than 000 by 2 `Version`, an idle packet with a secondary header by 3
-/// `IdleWithSecondary`, and then fewer octets than declared by 1 `Truncated`.
+/// Reads the packet that the octets begin with (CCSDS 133.0-B-2, 4.1), and returns it with its number of
+/// octets. The packet borrows its data from the octets. Octets after the packet are not looked at. Refuses,
+/// in this order: fewer than 6 octets (1 `Truncated`), a version other than 000 (2 `Version`), an idle packet
+/// with a secondary header (3 `IdleWithSecondary`), and fewer octets than declared (1 `Truncated`).
 /// Faults: 1 Truncated, 2 Version, 3 IdleWithSecondary.
 #[tactic(auto, using(crate::proofs::Decoded::packet_again))]
 pub fn decode(octets: &[u8]) -> Result<(Packet<'_>, usize), PacketFault>
     ensures answer { map_ok found_view result ≡ packet_at octets.now }
 
-    // It is a packet and its length exactly where this many octets spell it.
+    // It is a packet and its length exactly when this many octets spell the packet.
     ensures found { IfOk result (λ f. IsFirstPacket (packet_view f.0) f.1 octets.now) }
     ensures only { (p : PacketView) (n : ℕ) → IsFirstPacket p n octets.now
         → map_ok found_view result ≡ Ok (p, n) }

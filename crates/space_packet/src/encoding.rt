@@ -9,10 +9,10 @@ use crate::fault::PacketFault;
 use crate::packet::{Packet, PacketKind};
 use byteorder::{BigEndian, ByteOrder};
 
-/// Writes the packet at the beginning of `out`, and says how many octets it has: 7 to 65,542
-/// (CCSDS 133.0-B-2, 4.1). Octets past it stay. Refuses by 5 `FieldRange` a field out of its range,
-/// a payload of no octets or of more than 65,536 and an idle packet with a secondary header, and
-/// then by 4 `Room` an output that is too short.
+/// Writes the packet at the beginning of `out`, and returns its length: 7 to 65,542 octets (CCSDS
+/// 133.0-B-2, 4.1). The octets after the packet stay unchanged. Refuses with 5 `FieldRange` a field
+/// out of range, a payload of no octets or of more than 65,536, or an idle packet with a secondary
+/// header. Then refuses with 4 `Room` an output that is too short.
 /// Faults: 5 FieldRange, then 4 Room. Cost: n.
 pub fn encode(packet: &Packet, out: &mut [u8]) -> Result<usize, PacketFault>
     ensures answer { result ≡ encode_answer (packet_view packet.now) (length out.old) }

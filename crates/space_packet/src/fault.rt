@@ -1,39 +1,40 @@
-// Why octets are no packet, and why a packet has no octets.
+// Why octets do not form a packet, and why a packet has no octets.
 
 ghost use Rattle.std.specs.Prelude.{◌≡◌};
 
 use std::error::Error;
 use std::fmt::{self, Display, Formatter, Write};
 
-/// Why octets were refused as a packet (1 to 3), or a packet or octets were not taken (4 to 6).
+/// Why octets were refused as a packet (1 to 3), or why a packet was not written or octets were not
+/// taken (4 to 6).
 #[derive(Clone, Copy, Debug, PartialEq, Eq)]
 pub enum PacketFault {
-    /// Fewer than the 6 octets of the header, or fewer octets than it declares.
+    /// There are fewer than the 6 octets of the header, or fewer octets than it declares.
     Truncated = 1,
     /// The version number is not 000 (CCSDS 133.0-B-2, 4.1.3.2).
     Version = 2,
     /// An idle packet with a secondary header (4.1.3.3.3).
     IdleWithSecondary = 3,
-    /// The output has too little room for the packet.
+    /// The output is too short for the packet.
     Room = 4,
-    /// A field out of its range, a payload of no octets or of more than 65,536, or an idle packet
-    /// with a secondary header.
+    /// A field is out of range, the payload has no octets or more than 65,536, or an idle packet
+    /// has a secondary header.
     FieldRange = 5,
-    /// There was no memory for octets that were fed.
+    /// Memory ran out for octets that were fed.
     Memory = 6,
 }
 
 impl PacketFault {
     ghost use Rattle.space_packet.specs.Faults.{fault_row};
 
-    /// The fault's number, from 1.
+    /// Returns the fault's number, from 1.
     pub fn number(self) -> u8
         ensures { result ≡ (fault_row self).0 }
     {
         self as u8
     }
 
-    /// The fault's name, as it is written here.
+    /// Returns the fault's name, as it is written here.
     pub fn name(self) -> &'static str
         ensures { result.now ≡ (fault_row self).1 }
     {

@@ -6,7 +6,7 @@ ghost use Rattle.space_packet.specs.Counters.{gap_between, gap_after, counts_see
 use std::marker::Model;
 
 /// The last sequence count that was seen of each application process (CCSDS 133.0-B-2, 4.1.3.4.3).
-/// In contracts it is the list of these counts by APID.
+/// Contracts see it as the list of these counts by APID.
 #[derive(Drop)]
 pub struct GapCheck {
     last: [Option<u16>; 2048],
@@ -19,16 +19,16 @@ impl Model for GapCheck {
 }
 
 impl GapCheck {
-    /// No count was seen. It takes no memory.
+    /// Returns a check that has seen no count. It takes no memory.
     pub fn new() -> Self
         ensures { result ≡ replicate 2048 None }
     {
         GapCheck { last: [None; 2048] }
     }
 
-    /// Sees a packet of this APID with this count (CCSDS 133.0-B-2, 4.1.3.4.3). `None` for the
-    /// first of the APID; else how many are missing before it, (count - last - 1) modulo 16,384. No
-    /// other APID's last count changes.
+    /// Records a packet of this APID with this count (CCSDS 133.0-B-2, 4.1.3.4.3). Returns `None`
+    /// for the first packet of the APID. Otherwise returns the number of packets missing before it,
+    /// which is (count - last - 1) modulo 16,384. No other APID's last count changes.
     pub fn see(&mut self, apid: u16, count: u16) -> Option<u16>
         requires { apid < 2048 }
         ensures gap { result ≡ gap_after (get_or self.old apid None) count }
@@ -46,9 +46,9 @@ impl GapCheck {
     }
 }
 
-/// How many packets of an application process are missing between one with the count `last` and the
-/// next that came, with this count: (count - last - 1) modulo 16,384 (CCSDS 133.0-B-2, 4.1.3.4.3). It
-/// is for callers that keep the last counts themselves.
+/// Returns the number of packets of an application process that are missing between one with the
+/// count `last` and the next that arrived, with this count: (count - last - 1) modulo 16,384 (CCSDS
+/// 133.0-B-2, 4.1.3.4.3). It is for callers that keep the last counts themselves.
 pub fn gap_between(last: u16, count: u16) -> u16
     ensures { result ≡ gap_between last count }
 {

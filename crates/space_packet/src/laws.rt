@@ -25,8 +25,8 @@ pub fn law_of_reading()
 {}
 
 #[tactic(auto, using(crate::proofs::Decoded::record_is, crate::proofs::Decoded::record_again, crate::proofs::Decoded::records_are))]
-/// The records of a stream are its packets: octets are a record exactly where they spell a packet,
-/// idle or not. So it is for all records that stand one after another.
+/// The records of a stream are its packets: octets are a record exactly when they spell a packet,
+/// idle or not. The same holds of all records one after another.
 pub fn law_of_records()
     ensures found { (octets : List ℕ) → IsOctets octets
         → IsRecord 6 extent_at octets → IsSomePacket octets }

@@ -12,7 +12,7 @@ use crate::fault::PacketFault;
 use octets::Wire;
 
 /// Packets as records of a stream: each is as long as its header declares (CCSDS 133.0-B-2,
-/// 4.1.3.5). A header is refused by 2 `Version`, and then by 3 `IdleWithSecondary`.
+/// 4.1.3.5). A header is refused with 2 `Version`, and then with 3 `IdleWithSecondary`.
 #[derive(Clone, Copy, Debug, PartialEq, Eq)]
 pub struct Packets;
 

@@ -1,7 +1,7 @@
 //! Space packets (CCSDS 133.0-B-2): the codec, packets on a stream, and sequence counts.
 //!
-//! `decode` reads the packet that octets begin with, and otherwise says the first fault; `encode`
-//! writes the one spelling of a packet. `PacketSplitter` takes a stream of packets apart.
+//! `decode` reads the packet that octets begin with, and otherwise returns the first fault.
+//! `encode` writes the one spelling of a packet. `PacketSplitter` splits a stream into packets.
 #![tactic(auto)]
 
 mod counters;

@@ -3,13 +3,12 @@
 ghost use Rattle.std.specs.Prelude.{◌≡◌};
 ghost use Rattle.space_packet.specs.Layout.{is_idle_apid};
 
-/// What a packet is a part of: reports from the spacecraft, or commands to it (the packet type,
-/// CCSDS 133.0-B-2, 4.1.3.3.2).
+/// The packet type: reports from the spacecraft, or commands to it (CCSDS 133.0-B-2, 4.1.3.3.2).
 #[derive(Clone, Copy, Debug, PartialEq, Eq)]
 pub enum PacketKind {
-    /// From the spacecraft: the packet type 0.
+    /// From the spacecraft: packet type 0.
     Telemetry,
-    /// To the spacecraft: the packet type 1.
+    /// To the spacecraft: packet type 1.
     Telecommand,
 }
 
@@ -21,7 +20,7 @@ pub struct Packet<'a> {
     /// Whether the payload begins with a secondary header, which is not interpreted here. An idle
     /// packet has none (4.1.3.3.3).
     pub secondary: bool,
-    /// The application process identifier, below 2,048; 2,047 is that of idle packets (4.1.3.3.4).
+    /// The application process identifier, below 2,048; idle packets have 2,047 (4.1.3.3.4).
     pub apid: u16,
     /// The sequence flags, below 4, which are not interpreted here: 0 continuation, 1 first, 2 last,
     /// 3 unsegmented (4.1.3.4.2).
@@ -32,7 +31,7 @@ pub struct Packet<'a> {
     pub payload: &'a [u8],
 }
 
-/// Whether packets of this application process are idle (CCSDS 133.0-B-2, 4.1.3.3.4).
+/// Returns whether packets of this application process are idle (CCSDS 133.0-B-2, 4.1.3.3.4).
 pub fn is_idle_apid(apid: u16) -> bool
     ensures { result ≡ is_idle_apid apid }
 {

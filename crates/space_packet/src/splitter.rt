@@ -1,4 +1,4 @@
-// Packets taken from a stream that comes in pieces.
+// Packets from a stream that arrives in pieces.
 
 ghost use Rattle.std.specs.Prelude.{◌≡◌};
 ghost use Rattle.std.specs.Borrow.{sem};
@@ -8,8 +8,8 @@ use crate::layout::Packets;
 use octets::Splitter;
 use std::alloc::Global;
 
-/// Takes a stream of packets apart, however it was cut into pieces (CCSDS 133.0-B-2, 4.1.3). A
-/// record is as long as its header declares, and is not decoded.
+/// Splits a stream into packets, however the stream was cut into pieces (CCSDS 133.0-B-2, 4.1.3). A record is
+/// as long as its header declares, and is not decoded.
 #[derive(Drop)]
 pub struct PacketSplitter(Splitter<Packets>);
 
@@ -19,14 +19,14 @@ impl PacketSplitter {
     ghost use Rattle.space_packet.specs.Splitter.{held_in, EndsAfter};
     ghost use Rattle.space_packet.specs.Decoding.{extent_at};
 
-    /// A splitter that holds nothing; it takes no memory until it is fed.
+    /// Returns an empty splitter. It takes no memory until it is fed.
     pub fn new(alloc: Global) -> Self
         ensures { held_in result ≡ nothing_held }
     {
         PacketSplitter(Splitter::new(alloc))
     }
 
-    /// Takes more octets of the stream. At a fault the splitter is as it was.
+    /// Takes more octets of the stream. On a fault the splitter is unchanged.
     /// Faults: 6 Memory. Memory: yes, for one octet or more. Cost: n and the octets held.
     pub fn feed(&mut self, octets: &[u8]) -> Result<(), PacketFault>
         ensures { IsFed octets.now PacketFault.Memory (held_in self.old) (held_in self.new) result }
@@ -34,8 +34,8 @@ impl PacketSplitter {
         self.0.feed(octets)
     }
 
-    /// The next whole packet's octets, lent, or the fault of its header; `None` while octets are
-    /// missing. Once a header was refused, this call and every later one answer that fault.
+    /// Returns the next whole packet's octets, borrowed from the splitter, or the fault of its header; `None`
+    /// while octets are missing. Once a header is refused, this call and every later one return that fault.
     /// Faults: 2 Version, 3 IdleWithSecondary.
     pub fn next(&mut self) -> Option<Result<&[u8], PacketFault>>
         ensures* rests { sem 𝓛 (EndsAfter self.entry (answer_view result)) }
@@ -47,7 +47,8 @@ impl PacketSplitter {
         }
     }
 
-    /// Whether the stream may end here. The fault says that octets are left, and no header was refused.
+    /// Checks whether the stream may end here. The fault means that octets are left and no header was
+    /// refused.
     /// Faults: 1 Truncated.
     pub fn finish(&self) -> Result<(), PacketFault>
         ensures { IsFinished PacketFault.Truncated (held_in self.now) result }

@@ -5,8 +5,8 @@ ghost use Rattle.space_packet.specs.Packets.{first_packet, is_packet};
 
 use crate::decoding::decode;
 
-/// How many octets the packet has that these begin with; `None` where they begin with none (CCSDS
-/// 133.0-B-2, 4.1.3.5).
+/// Returns the number of octets of the packet that these octets begin with; `None` if they begin
+/// with no packet (CCSDS 133.0-B-2, 4.1.3.5).
 pub fn packet_len(octets: &[u8]) -> Option<usize>
     ensures first { option_map (λ n. take n octets.now) result ≡ first_packet octets.now }
     ensures within { IfSome result (λ n. (1 ≤ n) × (n ≤ length octets.now)) }
@@ -18,8 +18,8 @@ pub fn packet_len(octets: &[u8]) -> Option<usize>
     }
 }
 
-/// Whether the octets are exactly one packet, of either type, idle too: a whole one, and nothing
-/// after it (CCSDS 133.0-B-2, 4.1).
+/// Returns whether the octets are exactly one whole packet, of either type, idle or not, with
+/// nothing after it (CCSDS 133.0-B-2, 4.1).
 pub fn is_packet(octets: &[u8]) -> bool
     ensures one { result ≡ is_packet octets.now }
     ensures range { IsTrue result → (7 ≤ length octets.now) × (length octets.now ≤ 65542) }

@@ -1,4 +1,4 @@
--- How a search goes on by a piece of a stream.
+-- How a search continues with a piece of a stream.
 use Rattle.std.proofs.Common.{◌≡◌, ◌≤◌, ℕ, ◌+◌, List, [], ◌++◌, length, sym, ap, append_assoc, ◌∙◌, arith}
 use Rattle.std.proofs.lemmas.List.{length-append}
 use Rattle.listings.specs.Listing.{Lines}

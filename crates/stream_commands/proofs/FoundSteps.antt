@@ -1,4 +1,4 @@
--- How a listing goes on over the octets of a channel.
+-- How a listing continues over the octets of a channel.
 use Rattle.std.proofs.Common.{◌≡◌, ◌≤◌, ◌<◌, ℕ, suc, false, ◌+◌, List, [], ◌∷◌, ◌++◌, length, take, drop, Some, None}
 use Rattle.std.proofs.Common.{refl, sym, ap, ◌∙◌, append_assoc, arith}
 use Rattle.std.specs.Prelude.{zero, Result, OnOk}
@@ -61,7 +61,7 @@ module _ {S F : Type 0} (lines : Lines S F) where
         ∙ ap (with_parts lines st) (append_assoc (skipped n) (Frame frame ∷ []) after)
         ∙ ap (with_parts lines st) (sym parts)
 
-    -- an octet more is skipped
+    -- one more octet is skipped
     pub skips : (st : Found S) (n : ℕ) (octets more : List ℕ) → 0 < length octets
         → good_frame scid vcid (octets ++ more) ≡ None
         → from_here lines scid vcid st (n + 1) (drop 1 octets ++ more)
@@ -76,7 +76,7 @@ module _ {S F : Type 0} (lines : Lines S F) where
 
     -- ---- a text that is written
 
-    -- a listing goes on after its text
+    -- a listing continues after its text
     pub text_on : (text : List ℕ) (kept : S) (p : Progress) (n : ℕ) (octets : List ℕ)
         → from_here lines scid vcid (standing text kept p) n octets
         ≡ behind_text text (from_here lines scid vcid (standing [] kept p) n octets)
@@ -84,7 +84,7 @@ module _ {S F : Type 0} (lines : Lines S F) where
         ap (λ (t : List ℕ). from_here lines scid vcid (standing t kept p) n octets) (sym (append-nil text))
         ∙ parts_behind text (standing [] kept p) (parts_after scid vcid n 0 octets)
 
-    -- what begins its text begins all
+    -- a beginning of its text is a beginning of the whole text
     pub begins_written : (before text now : List ℕ) (kept later : S) (p q : Progress) (n m : ℕ) (xs ys : List ℕ)
         → IsBeginning now (before ++ text)
         → from_here lines scid vcid (standing text later q) m xs
@@ -96,7 +96,7 @@ module _ {S F : Type 0} (lines : Lines S F) where
 
     -- ---- the end of a stream
 
-    -- what is left where a good frame might begin, if octets came after it
+    -- what is left when a good frame might begin there if more octets came
     pub skips_left : (st next : Found S) (n m at count : ℕ) (octets fed : List ℕ) → fed ≡ drop at octets
         → at + count < length octets → good_frame scid vcid (drop count fed) ≡ None
         → ((more : List ℕ) → from_here lines scid vcid next m (drop count fed ++ more)

@@ -1,5 +1,5 @@
--- The lines of the good frames of a channel, and of what is skipped between them: each frame, and
--- each stretch that is skipped, counts as a record.
+-- The lines of the good frames of a channel, and of what is skipped between them. Each frame, and
+-- each run of skipped octets, counts as a record.
 use Rattle.std.specs.Prelude.{◌≡◌, ◌≤◌, ℕ, ◌+◌, Bool, true, false, List, [], ◌++◌, codes, decimal}
 use Rattle.std.specs.Prelude.{length}
 use Rattle.std.specs.List.{fold}
@@ -15,7 +15,7 @@ use Rattle.stream_commands.specs.declared.found.Search.{Search}
 abbrev pub skipped_line : ℕ → ℕ → List ℕ
 skipped_line i n = decimal i ++ (codes " skipped " ++ (decimal n ++ line_end))
 
--- How a listing stands: the text so far, what is kept between two frames, how many records there
+-- The state of a listing: the text so far, what is kept between two frames, how many records there
 -- were, and whether none of them was skipped.
 pub record Found (S : Type 0) : Type 0 where
   pub text : List ℕ
@@ -27,7 +27,7 @@ pub record Found (S : Type 0) : Type 0 where
 abbrev pub fresh : {S : Type 0} → List ℕ → S → Found S
 fresh text s = record { text = text; kept = s; count = 0; all_good = true }
 
--- how a listing stands, seen from the code
+-- the state of a listing, as the code sees it
 abbrev pub standing : {S : Type 0} → List ℕ → S → Progress → Found S
 standing text kept progress =
     record { text = text; kept = kept; count = progress.count; all_good = progress.all_good }
@@ -60,17 +60,17 @@ module _ {S F : Type 0} (lines : Lines S F) where
     all_good = (found scid vcid s octets).all_good;
   }
 
-  -- How a listing goes on, seen from the code: all that is found in the octets from here on, before
-  -- which this many were skipped.
+  -- How a listing continues, as the code sees it: all that is found in the octets from here on,
+  -- after this many skipped ones.
   abbrev pub from_here : ℕ → ℕ → Found S → ℕ → List ℕ → Found S
   from_here scid vcid st n octets = with_parts st (parts_after scid vcid n 0 octets)
 
-  -- all that is found from where a search stands
+  -- all that is found from the state of a search on
   abbrev pub found_on : Search → S → List ℕ → Found S
   found_on l s octets = from_here l.scid l.vcid (standing [] s l.progress) l.progress.skipped
       (l.held.items ++ octets)
 
-  -- What a search makes of a stream that comes in pieces.
+  -- How a search takes a stream that arrives in pieces.
   abbrev pub searching : Taking Search S Summary
   searching = record {
     text = λ l s octets. (found_on l s octets).text;

@@ -1,5 +1,5 @@
--- The table of commands, and what it says of the lines, the outcome and the end of a file. Nothing
--- is listed of what is played.
+-- The table of commands, and what it defines: the lines, the outcome and the end of a file. Nothing
+-- is listed for a file that is run.
 use Rattle.std.specs.Prelude.{◌≡◌, ◌⊎◌, List, [], ℕ, Bool, true, false, Option, Some, None}
 use Rattle.std.specs.Prelude.{Result, IfOk, OnOk}
 use Rattle.tc_frame.specs.declared.frame.Check.{Check}
@@ -36,11 +36,10 @@ use Rattle.listings.specs.declared.stream.Summary.{Summary}
 use Rattle.stream_commands.specs.declared.outcome.Outcome.{Outcome}
 use Rattle.stream_commands.specs.Outcome.{outcome_if}
 
--- What is done with a file: its records are listed, cut by this layout, with these lines and this
--- kept before the first;
--- or the good frames of a channel, of this spacecraft and this virtual channel, are listed so, and
--- what is skipped between them;
--- or it is played, as a script or line by line, and is no stream of records.
+-- What is done with a file. Its records are listed, cut by this layout, with these lines and this
+-- kept before the first. Or the good frames of a channel, of this spacecraft and this virtual
+-- channel, are listed in the same way, with what is skipped between them. Or the file is run, as a
+-- script or line by line, and is not a stream of records.
 pub data Work : Type 1 where
   Lists : {S F : Type 0} → Layout F → Lines S F → S → Work
   Finds : {S F : Type 0} → ℕ → ℕ → Lines S F → S → Work
@@ -54,7 +53,7 @@ frames_on c octets = keeps_frame c.scid c.vcid octets
 abbrev pub telemetry_on : Channel → List ℕ → Bool
 telemetry_on c octets = keeps_telemetry c.scid c.vcid octets
 
--- of telecommand frames those of a channel are listed, or all
+-- telecommand frames are listed, those of a channel or all
 abbrev pub frames_work : {S : Type 0} → Check → Lines S TcFault → S → Option Channel → Work
 frames_work check lines start None = Lists (frame_layout check) lines start
 frames_work check lines start (Some c) =
@@ -88,7 +87,7 @@ abbrev pub packet_work : Option ℕ → Work
 packet_work None = Lists packet_layout packet_lines none_seen
 packet_work (Some apid) = Lists packet_layout (only (keeps_packet apid) packet_lines) none_seen
 
--- what is listed of the good frames of a channel
+-- what is listed for the good frames of a channel
 abbrev pub searched_work : ℕ → ℕ → Searched → Work
 searched_work scid vcid (searches.Farm width vr first) =
     Finds scid vcid (from_first farm_begun On (farm_lines On))
@@ -124,21 +123,21 @@ is_listed tasks.Ground = false
 is_listed tasks.Spacecraft = false
 is_listed task = true
 
--- the lines for all octets of a file, its rest included; nothing is listed of what is played
+-- the lines for all octets of a file, its rest included; nothing is listed for a file that is run
 abbrev pub work_lines : Work → List ℕ → List ℕ
 work_lines (Lists layout lines start) octets = text_of lines layout (fresh start octets)
 work_lines (Finds scid vcid lines start) octets = (found lines scid vcid start octets).text
 work_lines Plays octets = []
 
--- how many records and octets there are, and whether every record is good and nothing is left;
--- where good frames are searched for, whether nothing is skipped
+-- how many records and octets there are, and whether every record is good and nothing is left; if
+-- good frames are searched for, whether nothing is skipped
 abbrev pub work_summary : Work → List ℕ → Summary
 work_summary (Lists layout lines start) octets = summary_of lines layout (fresh start octets)
 work_summary (Finds scid vcid lines start) octets = found_summary lines scid vcid start octets
 work_summary Plays octets = record { records = 0; octets = 0; all_good = true }
 
--- a record's length is refused, so that nothing more is read; of what is searched or played all is
--- read
+-- a record's length is refused, so that nothing more is read; a file that is searched or run is
+-- read to its end
 abbrev pub WorkStops : Work → List ℕ → Type 0
 WorkStops (Lists layout lines start) octets = IsRefused layout (rest_by layout octets)
 WorkStops (Finds scid vcid lines start) octets = ⊥
@@ -150,11 +149,11 @@ listed_lines task octets = work_lines (work_of task) octets
 abbrev pub task_summary : Task → List ℕ → Summary
 task_summary task octets = work_summary (work_of task) octets
 
--- Good exactly where every record is good and nothing is left
+-- Good exactly when every record is good and nothing is left
 abbrev pub listed_outcome : Task → List ℕ → Outcome
 listed_outcome task octets = outcome_if (task_summary task octets).all_good
 
--- what is written of a file: its lines, or their totals
+-- what is written for a file: its lines, or their totals
 abbrev pub shown_lines : Bool → Task → List ℕ → List ℕ
 shown_lines false task octets = listed_lines task octets
 shown_lines true task octets =
@@ -164,8 +163,8 @@ shown_lines true task octets =
 abbrev pub StopsAt : Task → List ℕ → Type 0
 StopsAt task octets = WorkStops (work_of task) octets
 
--- A file is listed as a task asks for it: what the source has given is read, the lines are
--- written, and the answer says what was listed; all was read, or the task stops.
+-- A file is listed as a task requires: what the source has given is read, and the lines are
+-- written. The answer is what was listed. All was read, or the task stops.
 pub record ListsTask {R W : Type 0} (given : R → List ℕ) (remaining : R → Option (List ℕ))
     (read_failures : R → ℕ) (has_ended : R → Bool) (taken : W → List ℕ) (write_failures : W → ℕ)
     (task : Task) (result : Result Summary StreamFault)

@@ -3,7 +3,7 @@ use Rattle.std.specs.Prelude.{ℕ, Bool, true, false, List}
 use Rattle.stream_commands.specs.declared.outcome.Outcome.{Outcome}
 use Rattle.stream_commands.specs.declared.outcome.Outcome.TheVariants as outcomes
 
--- an outcome without where its octets lie in memory
+-- an outcome, wherever its octets lie in memory
 pub data OutcomeView : Type 0 where
   Good : OutcomeView
   Faulty : OutcomeView
@@ -16,7 +16,7 @@ outcome_view outcomes.Faulty = Faulty
 outcome_view (outcomes.Unreadable line) = Unreadable line
 outcome_view (outcomes.OutOfRange field) = OutOfRange field.now
 
--- Good exactly where all is good
+-- Good exactly when all is good
 abbrev pub outcome_if : Bool → Outcome
 outcome_if true = outcomes.Good
 outcome_if false = outcomes.Faulty

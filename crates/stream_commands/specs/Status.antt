@@ -14,14 +14,14 @@ exit_status (Ok (Unreadable line)) = 1
 exit_status (Ok (OutOfRange field)) = 1
 exit_status (Err fault) = 3
 
--- what a fault is on standard error
+-- the line of a fault on standard error
 abbrev pub fault_line : StreamFault → List ℕ
 fault_line Read = codes "tctool: read failed" ++ line_end
 fault_line Write = codes "tctool: write failed" ++ line_end
 fault_line Memory = codes "tctool: no memory" ++ line_end
 fault_line TooLong = codes "tctool: input too long" ++ line_end
 
--- the line on standard error, or nothing where there is none
+-- the line on standard error, or nothing if there is none
 abbrev pub ending_line : Result Outcome StreamFault → List ℕ
 ending_line (Ok Good) = []
 ending_line (Ok Faulty) = []

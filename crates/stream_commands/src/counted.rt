@@ -15,15 +15,15 @@ use listings::{Summary, Totals};
 use std::alloc::Global;
 use streams::{Sink, Source, StreamFault, WriteFailed, write_all};
 
-/// Reads a stream to its end, in pieces, and writes the lines that a command asks for that lists a file: of
-/// each piece before the next is read. Where totals are asked for (`count`), it writes these at the end in
-/// place of the lines: the whole records, the octets, and how often each counted word stands in the lines.
+/// Reads a stream to its end, in pieces, and writes the lines of a command that lists a file. It writes the
+/// lines of each piece before it reads the next. With `count` it writes totals at the end instead of the
+/// lines: the whole records, the octets, and how often each counted word occurs in the lines.
 ///
-/// An `Ok` says that all lines are written and nothing else, and whether every record was good. Where
-/// a record declares a length that none can have, its line is the last and nothing more is read. The
-/// fault is `Read` or `Write` where that device failed, `Memory` where none was left, and `TooLong`
-/// past `MOST_OCTETS` octets; what is written by then is a beginning of the lines or of the totals. A call
-/// that failed is the last of its device. What is noted of the records is for `Note::tell`.
+/// An `Ok` states that all lines and nothing else were written, and whether every record was good. If a
+/// record declares an impossible length, its line is the last and nothing more is read. The fault is
+/// `Read` or `Write` if that device failed, `Memory` if memory ran out, and `TooLong` beyond `MOST_OCTETS`
+/// octets. What is written by then is a beginning of the lines or of the totals. A call that failed is the
+/// last one of its device. What is noted about the records is for `Note::tell`.
 /// Faults: `Read`, `Write`, `Memory`, `TooLong`. Memory: yes. Cost: the octets read and written.
 pub fn list<R: Source, W: Sink>(
     alloc: Global,

@@ -15,8 +15,8 @@ use std::alloc::{AllocError, Global};
 use streams::{Sink, Source, StreamFault, Taker, WriteFailed, go_through, write_all};
 use tc_frame::Checked;
 
-// Takes all good frames and all octets of which is known that none begins there, and answers how many octets
-// these are. Of the others there are fewer than the longest frame has.
+// Takes all good frames, and all octets at which it is known that none begins. It returns how many octets
+// these are. The octets that are left are fewer than the longest frame has.
 fn list_found<C: Listing<Splitter<Checked>>>(
     octets: &[u8],
     scid: u16,
@@ -53,7 +53,7 @@ fn list_found<C: Listing<Splitter<Checked>>>(
     Ok(at)
 }
 
-// Takes the octets that are left where the input has ended, of which no more can come.
+// Takes the octets that are left when the input has ended and no more can come.
 fn list_left<C: Listing<Splitter<Checked>>>(
     octets: &[u8],
     scid: u16,
@@ -79,7 +79,7 @@ fn list_left<C: Listing<Splitter<Checked>>>(
     }
 }
 
-// A stream that is searched. The octets of which is not known whether a good frame begins there are held, fewer
+// A stream that is searched. It holds the octets at which it is not known whether a good frame begins, fewer
 // than the longest frame has.
 #[derive(Drop)]
 struct Search {
@@ -155,14 +155,14 @@ impl<C: Listing<Splitter<Checked>>, W: Sink> Taker<C, W> for Search {
     ghost of_nothing = { λ l c text. tt };
 }
 
-/// Reads a stream in pieces to its end, and writes the lines of the good frames of this channel, as the
-/// listing has them, and of what is skipped between them: those of each piece before it reads the next. It
-/// answers how many records and octets there were, and whether nothing was skipped. A good frame begins at
-/// the least place from the end of the one before at which one does. Fewer octets than the longest frame
-/// has are held, and a piece.
+/// Reads a stream in pieces to its end. For each piece, before it reads the next, it writes the listing's
+/// lines of the good frames of this channel, and the lines of what is skipped between them. It returns how
+/// many records and octets there were, and whether nothing was skipped. Each good frame begins at the first
+/// possible place after the end of the one before. The call holds a piece, and fewer octets than the longest
+/// frame has.
 ///
-/// The fault is `Read` or `Write` where that device failed, `Memory` where none was left, and `TooLong` past
-/// `MOST_OCTETS` octets; what is written by then is a beginning of the lines.
+/// The fault is `Read` or `Write` if that device failed, `Memory` if memory ran out, and `TooLong` beyond
+/// `MOST_OCTETS` octets. What is written by then is a beginning of the lines.
 /// Faults: Read, Write, Memory, TooLong. Memory: yes. Cost: for each octet at which a frame with the
 /// channel's header might begin, those of that frame.
 pub fn list_found_frames<C: Listing<Splitter<Checked>> + Drop, R: Source, W: Sink>(

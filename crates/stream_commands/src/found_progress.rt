@@ -11,8 +11,8 @@ use octets::Splitter;
 use std::alloc::AllocError;
 use tc_frame::Checked;
 
-/// How far a stream is searched: the frames and the stretches that were skipped so far, the octets of a
-/// stretch that may go on, and whether nothing was skipped.
+/// How far a stream is searched: the number of frames and skipped runs so far, the octets of a run that
+/// may continue, and whether nothing was skipped.
 #[derive(Drop)]
 pub struct Progress {
     pub(crate) count: RecordNumber,
@@ -37,7 +37,7 @@ fn push_line(text: &mut Text, number: u64, octets: u64) -> Result<(), AllocError
     text.push(b"\n")
 }
 
-// Ends the stretch that is skipped, where there is one, with its line.
+// Ends the run of skipped octets with its line, if there is one.
 pub fn end_skipped(text: &mut Text, progress: &mut Progress) -> Result<(), AllocError>
     requires { progress.old.count + 1 < 2 ^ 64 }
     ensures none { progress.old.skipped ≡ 0 → (progress.new ≡ progress.old)

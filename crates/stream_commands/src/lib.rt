@@ -1,5 +1,4 @@
-//! What each command of `tctool` lists of a stream of records, and how a run of it ends. No script is played
-//! here.
+//! What each command of `tctool` lists for a stream of records, and how its run ends. No script is run here.
 #![tactic(auto)]
 
 mod counted;

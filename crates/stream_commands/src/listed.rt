@@ -1,4 +1,4 @@
-// Lists a stream of records, as a command asks for it.
+// Lists a stream of records, as a command requires.
 
 ghost use Rattle.std.specs.Prelude.{◌≡◌, ◌+◌, ℕ, List, [], true, None};
 ghost use Rattle.command_line.specs.Arguments.{IsInRange};
@@ -26,7 +26,7 @@ use std::marker::Brand;
 use streams::{Sink, Source, StreamFault};
 use tc_frame::FrameLayout;
 
-// Writes the lines that a command asks for, as `list` says it, and answers what was listed.
+// Writes the lines that a command requires, as `list` describes, and returns what was listed.
 pub(crate) fn list_lines<R: Source, W: Sink>(
     alloc: Global,
     reader: &mut R,
@@ -99,7 +99,7 @@ const EVERY_FRAME: FramesOf = FramesOf {
     vcid: None,
 };
 
-// The telecommand frames of a channel.
+// Returns the telecommand frames of a channel.
 fn frames_of(channel: Channel) -> FramesOf
     ensures { result ≡ record { scid = channel.scid; vcid = channel.vcid } }
 {
@@ -109,7 +109,7 @@ fn frames_of(channel: Channel) -> FramesOf
     }
 }
 
-// Lists what a receiver makes of frames.
+// Lists what a receiver does with frames.
 fn list_farm<const CHECKED: bool, R: Source, W: Sink>(
     alloc: Global,
     reader: &mut R,
@@ -143,7 +143,7 @@ fn list_farm<const CHECKED: bool, R: Source, W: Sink>(
     }
 }
 
-// Lists the packets out of frames.
+// Lists the packets from frames.
 fn list_maps<const CHECKED: bool, R: Source, W: Sink>(
     alloc: Global,
     reader: &mut R,
@@ -178,7 +178,7 @@ fn list_maps<const CHECKED: bool, R: Source, W: Sink>(
     }
 }
 
-// Lists telemetry frames of this length, for which `K` stands.
+// Lists telemetry frames of this length, which `K` represents.
 fn list_telemetry<K: FrameLength, R: Source, W: Sink>(
     alloc: Global,
     reader: &mut R,
@@ -209,7 +209,7 @@ fn list_telemetry<K: FrameLength, R: Source, W: Sink>(
     }
 }
 
-// Lists control words.
+// Lists CLCWs.
 fn list_words<R: Source, W: Sink>(
     alloc: Global,
     reader: &mut R,
@@ -267,7 +267,7 @@ fn list_packets<R: Source, W: Sink>(
     }
 }
 
-// Lists telecommand frames, of a channel where it is given.
+// Lists telecommand frames, only those of a channel if one is given.
 fn list_on<const CHECKED: bool, C, R: Source, W: Sink>(
     alloc: Global,
     reader: &mut R,
@@ -300,7 +300,7 @@ where
     }
 }
 
-// Lists the records that a filter keeps, for which `K` stands.
+// Lists the records that a filter keeps, which `K` represents.
 fn list_only<K: Kept, S: Cutter + Drop, C: Listing<S> + Drop, F: Filter + Drop, R: Source, W: Sink>(
     alloc: Global,
     reader: &mut R,
@@ -326,7 +326,7 @@ fn list_only<K: Kept, S: Cutter + Drop, C: Listing<S> + Drop, F: Filter + Drop, 
     list_records(alloc, reader, writer, task, note, cutter, listing)
 }
 
-// Lists the records of a stream as this task asks for it, and says how it ends.
+// Lists the records of a stream as this task requires, and returns how the listing ends.
 fn list_records<S: Cutter + Drop, C: Listing<S> + Drop, R: Source, W: Sink>(
     alloc: Global,
     reader: &mut R,

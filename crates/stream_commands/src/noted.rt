@@ -1,4 +1,4 @@
-// What is noted of a stream while it is listed, for lines on standard error. No clause speaks of it.
+// What is noted about a stream while it is listed, for lines on standard error. No clause covers it.
 
 ghost use Rattle.std.specs.Prelude.{◌≡◌};
 ghost use Rattle.listings.specs.Text.{Appends};
@@ -11,21 +11,21 @@ use std::cell::Cell;
 use std::marker::Model;
 use streams::{Sink, WriteFailed};
 
-/// What is noted of a stream: its whole records and their octets, and whether the good frames that a receiver
-/// takes are of several channels.
+/// What is noted about a stream: its whole records and their octets, and whether the good frames that a
+/// receiver takes belong to several channels.
 #[derive(Drop)]
 pub struct Note {
     records: Cell<u64>,
     octets: Cell<u64>,
-    // The frames that a receiver takes, where there is one.
+    // The frames that a receiver takes, if there is one.
     received: Cell<Option<FramesOf>>,
-    // The channel of the first of them, and whether another one is of another.
+    // The channel of the first such frame, and whether another frame belongs to another channel.
     channel: Cell<Option<u32>>,
     has_others: Cell<bool>,
 }
 
 impl Note {
-    /// The note of a stream of which nothing is listed yet.
+    /// Creates the note of a stream before anything is listed.
     pub fn new() -> Self {
         Note {
             records: Cell::new(0),
@@ -36,7 +36,7 @@ impl Note {
         }
     }
 
-    // Says that a receiver takes these frames.
+    // Notes that a receiver takes these frames.
     pub(crate) fn receives(&self, frames: FramesOf) {
         self.received.set(Some(frames));
     }
@@ -70,8 +70,8 @@ impl Note {
         }
     }
 
-    /// Writes a line if reading stopped before the end, where the octets of the file are said if they are
-    /// known, and one if a receiver took several channels' frames.
+    /// Writes a line if reading stopped before the end, with the octets of the file if they are known.
+    /// Writes a line if a receiver took frames of several channels.
     /// Faults: WriteFailed.
     pub fn tell<W: Sink>(
         &self,
@@ -89,7 +89,8 @@ impl Note {
         Ok(())
     }
 
-    // Writes where reading stopped. A device may say a length that is less than what was read of it.
+    // Writes where reading stopped. A device may report a length that is less than what was read
+    // from it.
     fn tell_place<W: Sink>(&self, length: Option<u64>, errors: &mut W) -> Result<(), WriteFailed> {
         let (mut records, mut octets, mut all) = (Buffer::new(), Buffer::new(), Buffer::new());
         let record = records.format(self.records.get().wrapping_add(1));
@@ -119,7 +120,7 @@ impl<'a, C> Model for Noted<'a, C> {
 }
 
 impl<'a, C> Noted<'a, C> {
-    /// This listing, whose records this note has.
+    /// Creates a listing like this one, whose records are noted in `note`.
     pub fn new(listing: C, note: &'a Note) -> Self
         ensures { result ≡ listing }
     {

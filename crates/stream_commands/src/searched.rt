@@ -1,4 +1,4 @@
-// Lists the good frames of a channel, as a command asks for them.
+// Lists the good frames of a channel, as a command requires.
 
 ghost use Rattle.std.specs.Prelude.{◌≡◌, ◌⊎◌, OnOk, IfOk};
 ghost use Rattle.command_line.specs.Arguments.{IsInRange};
@@ -14,7 +14,7 @@ use listings::{FrameListing, FromFirst, MapListing, OneMap, RefusalListing, Summ
 use std::alloc::Global;
 use streams::{Sink, Source, StreamFault};
 
-/// Lists what a command lists of the good frames of a channel, and what is skipped between them.
+/// Lists what a command lists for the good frames of a channel, and what is skipped between them.
 pub fn list_searched<R: Source, W: Sink>(
     alloc: Global,
     reader: &mut R,

@@ -9,9 +9,9 @@ use crate::outcome::Outcome;
 use itoa::Buffer;
 use streams::{Sink, StreamFault, WriteFailed, write_all};
 
-/// Writes the line for standard error, where there is one, and answers the status: 0 where all was
-/// good, 1 for a fault in the data or the script, 3 where a device or memory failed or the input was too
-/// long. A fault of the sink is passed over; it has taken a beginning of the line then.
+/// Writes the line for standard error, if there is one, and returns the status: 0 if all was good, 1 for
+/// a fault in the data or the script, 3 if a device or memory failed or the input was too long. A fault
+/// of the sink is ignored; it has then taken a beginning of the line.
 pub fn ending<W: Sink>(dumped: &Result<Outcome, StreamFault>, errors: &mut W) -> u8
     ensures status { result ≡ exit_status dumped.now }
     ensures line { IsBeginning (W.taken_octets errors.new)
@@ -60,7 +60,7 @@ fn write_ending<W: Sink>(
     }
 }
 
-// The line of a fault.
+// Returns the line of a fault.
 fn line_of(fault: StreamFault) -> &'static str
     ensures { result.now ≡ fault_line fault }
 {

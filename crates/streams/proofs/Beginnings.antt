@@ -1,9 +1,9 @@
--- Beginnings of a text that goes on, and what follows from an answer that is Ok.
+-- Beginnings of a text that continues, and what follows from an answer that is Ok.
 use Rattle.std.proofs.Common.{◌≡◌, ◌∙◌, ℕ, List, ◌++◌, Result, Ok, Err, sym, ap, append_assoc}
 use Rattle.std.specs.Prelude.{IfOk, OnOk}
 use Rattle.octets.specs.Beginning.{IsBeginning}
 
--- What begins a text begins each longer one.
+-- A beginning of a text is a beginning of each longer one.
 
 pub begins_more : (a b t u whole : List ℕ) → whole ≡ t ++ u → IsBeginning a (b ++ t) → IsBeginning a (b ++ whole)
 begins_more a b t u whole e h = (

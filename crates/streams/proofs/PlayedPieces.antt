@@ -29,7 +29,7 @@ last_part-cons part parts has = rw has.is refl
 pub joined-nothing : (parts : List (List ℕ)) → HasParts parts → joined [] parts ≡ parts
 joined-nothing parts has = rw has.is refl
 
--- Parts before others, of which there is one.
+-- Parts before others, if there is at least one part.
 
 all_but_last-append : (parts more : List (List ℕ)) → HasParts more
     → all_but_last (parts ++ more) ≡ parts ++ all_but_last more
@@ -47,7 +47,7 @@ joined_has : (part : List ℕ) (more : List (List ℕ)) → HasParts (joined par
 joined_has part [] = record { first = part; more = []; is = refl }
 joined_has part (next ∷ more) = record { first = part ++ next; more = more; is = refl }
 
--- The parts of a text with more octets: the last part goes on.
+-- The parts of a text with more octets: the last part continues.
 
 abbrev goes_on : List (List ℕ) → List (List ℕ) → List (List ℕ)
 goes_on parts more = all_but_last parts ++ joined (last_part parts) more
@@ -109,14 +109,14 @@ module _ {S : Type 0} (playing : Playing S) where
       let has = text_has_parts after in
       rw (e, has.is) (played_one st (st.left ++ part) has.first has.more)
 
-  -- the same, from what the code has: octets go on the part that is there, and that is played as a line
+  -- the same, expressed by what the code has: octets follow the part that is there, and the result is played as a line
   pub fed_after : (st next : Standing S) (line part rest after : List ℕ) → line ≡ st.left ++ part
       → next ≡ played playing (record st { left = line }) (line ∷ [] ∷ []) → parts_of rest ≡ part ∷ parts_of after
       → fed playing next after ≡ fed playing st rest
   fed_after st next line part rest after goes_on plays cuts =
       rw (plays, goes_on) (fed_line st part rest after cuts)
 
--- How a text is played on by a piece.
+-- How a piece continues the playing of a text.
 
 module _ {S : Type 0} (playing : Playing S) where
   -- lines, and then more lines
@@ -144,7 +144,7 @@ module _ {S : Type 0} (playing : Playing S) where
   abbrev behind_text : List ℕ → Standing S → Standing S
   behind_text before st = record st { text = before ++ st.text }
 
-  -- a text is played on from where it stands after a piece
+  -- a text continues to be played from its state after a piece
   fed-piece : (st next : Standing S) (piece more : List ℕ) → next ≡ record (fed playing st piece) { text = [] }
       → fed playing st (piece ++ more) ≡ behind_text (fed playing st piece).text (fed playing next more)
   fed-piece st next piece more is =
@@ -192,7 +192,7 @@ module _ {S : Type 0} (playing : Playing S) where
         stops = λ more h. h;
       }
 
-  -- What is made of a text that is played from its first octet.
+  -- The outcome of a text that is played from its first octet.
   module _ (s : S) (left octets : List ℕ) (none : left ≡ []) where
     abbrev begun : Standing S
     begun = fed playing (record { text = []; player = s; all_good = true; left = left }) octets

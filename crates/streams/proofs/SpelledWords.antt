@@ -1,4 +1,4 @@
--- Words that are numerals, octets in hexadecimal, or parted by one space, and what they are read as.
+-- Words that are numerals, octets in hexadecimal, or separated by one space, and how they are read.
 use Rattle.hex.specs.Hex.{decode_of, decode_pairs, digit_or_error, hex_digit_value, lower_digits, upper_digits}
 use Rattle.hex.specs.Hex.{pair_value, value_at, ◌>>=◌}
 use Rattle.hex.specs.declared.error.FromHexError.{FromHexError}
@@ -31,7 +31,7 @@ use Rattle.streams.specs.Words.{starts_well, is_numeral, number_in_word, octets_
 use Rattle.streams.specs.Words.{two_words, rest_after}
 use Rattle.streams.specs.Hex.{IsHexDigit, IsPairs, no_pair, pair, IsHex, no_octets, some_octets}
 
--- What is found where a chain of options answers.
+-- What is found if a chain of options succeeds.
 
 pub record Mapped {A B : Type 0} (f : A → B) (o : Option A) (b : B) : Type 0 where
   pub value : A
@@ -85,7 +85,7 @@ pub ok_some : {E : Type 0} (r : Result ℕ E) (Q : Type 0) (v : ℕ) → OkIff r
 ok_some (Ok x) Q v h = h
 ok_some (Err e) Q v h = h
 
--- ---- a number is read where it is spelled as it is printed
+-- ---- a number is read exactly when it is spelled as it is printed
 
 chosen : {A : Type 0} (b : Bool) (v n : A) → cond b (Some v) None ≡ Some n → (b ≡ true) × (v ≡ n)
 chosen true v n e = (refl, same_Some v n e)
@@ -131,13 +131,13 @@ printed most n small le =
     let below : leb n most ≡ true = le-leb _ _ le in
     rw (value, first, digits, below) refl
 
--- numbers have no sign and no leading zero
+-- numbers have neither a sign nor a leading zero
 pub numbers : (most n : ℕ) (word : List ℕ) → most < 2 ^ 64
     → (number_in_word most word ≡ Some n) ↔ ((word ≡ decimal n) × (n ≤ most))
 numbers most n word small =
     (read most n word small, λ spelled. ap (number_in_word most) spelled.0 ∙ printed most n small spelled.1)
 
--- A word is read as octets where it spells them.
+-- A word is read as octets exactly when it spells them.
 
 -- ---- digits
 
@@ -145,7 +145,7 @@ pub spelled_digit : (value digit : ℕ) → value < 16 → IsHexDigit value digi
 spelled_digit value digit small (inl e) = ap hex_digit_value (sym e) ∙ IsDigits-lower_digits value small
 spelled_digit value digit small (inr e) = ap hex_digit_value (sym e) ∙ IsDigits-upper_digits value small
 
--- whether a digit stands in a table at its value; this computes
+-- whether a table contains a digit at its value; this computes
 abbrev stands : ℕ → Option ℕ → Bool
 stands digit None = true
 stands digit (Some value) = (slice_index lower_digits value == digit) || (slice_index upper_digits value == digit)
@@ -272,11 +272,11 @@ pub read_octets : (octets digits : List ℕ) → octets_in_word digits ≡ Some 
 unfolding octets_in_word
 read_octets octets digits e = read_word digits octets (bytes_eq digits (codes "-")) refl e
 
--- a word is these octets exactly where it spells them
+-- a word is these octets exactly when it spells them
 pub octets_as_words : (octets digits : List ℕ) → (octets_in_word digits ≡ Some octets) ↔ IsHex octets digits
 octets_as_words octets digits = (read_octets octets digits, spelled_octets octets digits)
 
--- Words that are parted by one space.
+-- Words that are separated by one space.
 
 abbrev no_space : ℕ → Bool
 no_space octet = not (octet == 32)
@@ -308,7 +308,7 @@ pub read_two : (octets : List ℕ) (two : List ℕ × List ℕ) → two_words oc
 unfolding two_words
 read_two octets two e = sym (join_with_byte-slice_split 32 octets) ∙ joined (words_in octets) two e
 
--- what a line begins with stands before the rest
+-- a line consists of what it begins with, followed by the rest
 pub begins : (words line rest : List ℕ) → rest_after words line ≡ Some rest → line ≡ words ++ rest
 unfolding rest_after
 begins words line rest e =

@@ -1,7 +1,7 @@
 -- Octets as a word: two hexadecimal digits for each, and `-` for none.
 use Rattle.std.specs.Prelude.{◌≡◌, ◌<◌, ◌/◌, ◌%◌, ◌⊎◌, ℕ, List, [], ◌∷◌, codes, slice_index}
 
--- a digit of this value; its letters are of either case
+-- a digit of this value; letters are of either case
 abbrev pub IsHexDigit : ℕ → ℕ → Type 0
 IsHexDigit value digit =
     (slice_index (codes "0123456789abcdef") value ≡ digit)

@@ -24,7 +24,7 @@ ended_lines text = all_but_last (parts_of text)
 abbrev pub left_of : List ℕ → List ℕ
 left_of text = last_part (parts_of text)
 
--- what is left is a line where it is not empty
+-- what is left is a line if it is not empty
 abbrev pub line_left : List ℕ → List (List ℕ)
 line_left [] = []
 line_left (octet ∷ octets) = (octet ∷ octets) ∷ []

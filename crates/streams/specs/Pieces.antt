@@ -1,23 +1,23 @@
--- What is made of a stream that comes in pieces, however it was cut into them.
+-- What a taker makes of a stream that arrives in pieces, however the stream was cut into them.
 use Rattle.std.specs.Prelude.{◌≡◌, ℕ, ◌+◌, List, ◌++◌, length}
 
--- What a taker makes of octets. S is the taker, K what it keeps for its caller, A what is answered
--- of a whole stream.
+-- What a taker makes of octets. S is the taker, K is what it keeps for its caller, and A is the
+-- answer for a whole stream.
 pub record Taking (S K A : Type 0) : Type 1 where
-  -- all that is written of octets that end the stream
+  -- all that is written for octets that end the stream
   pub text : S → K → List ℕ → List ℕ
-  -- what is answered of them, where this many came before, and what K is then
+  -- the answer for them, if this many came before, and K after it
   pub ends : S → K → ℕ → List ℕ → A → K → Type 0
   -- how the text grows by octets after which more may come
   pub so_far : S → K → List ℕ → List ℕ → List ℕ → Type 0
-  -- nothing more is read after octets
+  -- nothing more is read after these octets
   pub stops : S → K → List ℕ → Type 0
-  -- octets may come after this many
+  -- more octets may come after this many
   pub is_open : S → K → ℕ → Type 0
 
 module _ {S K A : Type 0} (taking : Taking S K A) (n : ℕ) (octets : List ℕ) (s : S) (k : K)
     (before : List ℕ) where
-  -- Octets were taken: whatever more come, the taker goes on as if it had all of them before it.
+  -- Octets were taken. Whatever octets follow, the outcome is as if all of them came at once.
   pub record GoesOn (s' : S) (k' : K) (now : List ℕ) : Type 0 where
     pub is_open : taking.is_open s' k' (n + length octets)
     pub text : (more : List ℕ)
@@ -29,12 +29,12 @@ module _ {S K A : Type 0} (taking : Taking S K A) (n : ℕ) (octets : List ℕ) 
         → taking.so_far s k (octets ++ more) before text
     pub stops : (more : List ℕ) → taking.stops s' k' more → taking.stops s k (octets ++ more)
 
-  -- Octets were taken that are the last: all is written and answered.
+  -- The last octets were taken: everything is written and answered.
   pub record Ends (answer : A) (last : K) (now : List ℕ) : Type 0 where
     pub text : now ≡ before ++ taking.text s k octets
     pub ends : taking.ends s k n octets answer last
 
-  -- Octets were taken after which nothing more is read.
+  -- Octets were taken, and nothing more is read after them.
   pub record Stops (answer : A) (last : K) (now : List ℕ) : Type 0 where
     pub whole : Ends answer last now
     pub stops : taking.stops s k octets

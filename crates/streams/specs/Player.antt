@@ -7,7 +7,7 @@ use Rattle.streams.specs.declared.play.Progress.{Progress}
 
 -- What a player does with a line. S is the player.
 pub record Playing (S : Type 0) : Type 0 where
-  -- what is written in answer, with its line feed; nothing where the line has no answer
+  -- what is written in answer, with its line feed; nothing if the line has no answer
   pub answer : S → List ℕ → List ℕ
   -- the player after the line
   pub after : S → List ℕ → S
@@ -22,7 +22,7 @@ pub record Standing (S : Type 0) : Type 0 where
   pub all_good : Bool
   pub left : List ℕ
 
--- a part of a line, and the parts of the octets that follow it
+-- a part of a line, joined with the parts of the octets that follow it
 abbrev pub joined : List ℕ → List (List ℕ) → List (List ℕ)
 joined left [] = left ∷ []
 joined left (part ∷ parts) = (left ++ part) ∷ parts
@@ -43,11 +43,11 @@ module _ {S : Type 0} (playing : Playing S) where
   are_good s [] = true
   are_good s (line ∷ lines) = playing.is_good s line && are_good (playing.after s line) lines
 
-  -- all that is written of a text
+  -- all that is written for a text
   abbrev pub answers_of : S → List ℕ → List ℕ
   answers_of s text = answers s (lines_of text)
 
-  -- what is written of a text that goes on: the answers to the lines that have ended
+  -- what is written for a text that may continue: the answers to the lines that have ended
   abbrev pub answers_so_far : S → List ℕ → List ℕ
   answers_so_far s text = answers s (ended_lines text)
 
@@ -59,7 +59,7 @@ module _ {S : Type 0} (playing : Playing S) where
   abbrev pub after_text : S → List ℕ → S
   after_text s text = after_lines s (lines_of text)
 
-  -- a text that is played further: each of these parts but the last is a line
+  -- a text that is played further; each of these parts except the last is a line
   abbrev pub played : Standing S → List (List ℕ) → Standing S
   played st parts = record {
     text = st.text ++ answers st.player (all_but_last parts);
@@ -68,11 +68,11 @@ module _ {S : Type 0} (playing : Playing S) where
     left = last_part parts;
   }
 
-  -- a text with these octets more
+  -- a text that is played further by these octets
   abbrev pub fed : Standing S → List ℕ → Standing S
   fed st octets = played st (joined st.left (parts_of octets))
 
-  -- What is made of a text that comes in pieces. L keeps how far it is played.
+  -- What a player makes of a text that arrives in pieces. L keeps how far the text is played.
   abbrev pub playing_of : {L : Type 0} → (L → S → Standing S) → Taking L S Bool
   playing_of stands = record {
     text = λ l s octets. let st = fed (stands l s) octets in
@@ -85,12 +85,12 @@ module _ {S : Type 0} (playing : Playing S) where
     is_open = λ l s n. Unit {0};
   }
 
--- A piece of a text was played up to here: the answers are written, and the next piece may come.
+-- A piece of a text has been played: the answers are written, and the next piece may come.
 pub record HasPlayed {S : Type 0} (st next : Standing S) (before now : List ℕ) : Type 0 where
   pub written : now ≡ before ++ st.text
   pub next_is : next ≡ record st { text = [] }
 
--- how far a text is played, seen from the code
+-- how far a text is played, as the code keeps it
 abbrev pub standing : {S : Type 0} → List ℕ → S → Progress → Standing S
 standing text player progress = record {
   text = text;

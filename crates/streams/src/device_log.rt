@@ -1,4 +1,4 @@
-// The log of a device, for proofs alone: the octets that went through it, and how many of its calls
+// The log of a device, only for proofs: the octets that went through it, and how many of its calls
 // failed.
 
 ghost use Rattle.std.specs.Prelude.{ℕ, Bool, List};
@@ -10,13 +10,13 @@ use std::marker::Model;
 /// What one call did: it moved octets, or it failed.
 #[derive(Clone, Copy, Drop)]
 pub enum Call<'a> {
-    /// These octets.
+    /// The call moved these octets.
     Moved(&'a [u8]),
-    /// None.
+    /// The call failed.
     Failed,
 }
 
-/// What the calls so far did. It takes no memory, and nothing of it is left when the program runs.
+/// Records what the calls so far did. It takes no memory, and does not exist when the program runs.
 #[derive(Drop)]
 pub struct DeviceLog {
     pub ghost octets: { List ℕ } by { coded_list coded_ℕ },
@@ -33,14 +33,14 @@ impl DeviceLog {
     ghost use Rattle.streams.specs.Devices.{octets_with, ended_with, failures_with};
     ghost use Rattle.streams.specs.Devices.{IsLogOf};
 
-    /// Before the first call. It is for proofs alone.
+    /// Returns the log before the first call. It is only for proofs.
     pub fn new() -> DeviceLog
         ensures { IsLogOf result [] false 0 }
     {
         DeviceLog {}
     }
 
-    /// After one call more. It is for proofs alone.
+    /// Returns the log after one more call. It is only for proofs.
     pub fn then(&self, _call: &Call<'_>) -> DeviceLog
         ensures { IsLogOf result (octets_with self.now.octets _call.now)
             (ended_with self.now.has_ended _call.now) (failures_with self.now.failures _call.now) }

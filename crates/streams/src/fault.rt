@@ -1,8 +1,8 @@
-// Why a stream is not gone through to its end.
+// Why a stream was not processed to its end.
 
 use thiserror::Error;
 
-/// Why a stream is not gone through to its end.
+/// Why a stream was not processed to its end.
 #[derive(Clone, Copy, Debug, Drop, Error, PartialEq, Eq)]
 pub enum StreamFault {
     /// The device that is read has failed.
@@ -11,10 +11,10 @@ pub enum StreamFault {
     /// The device that is written to has failed.
     #[error("write failed")]
     Write,
-    /// There was no memory.
+    /// Out of memory.
     #[error("no memory")]
     Memory,
-    /// There are more than 9,223,372,036,854,775,807 octets.
+    /// The stream has more than 9,223,372,036,854,775,807 octets.
     #[error("input too long")]
     TooLong,
 }

@@ -1,8 +1,9 @@
-//! Octets and text that come in pieces: where they come from and go to, the one loop over pieces, the lines
-//! of a text and the words of a line.
+//! Octets and text that arrive in pieces: their sources and sinks, the one loop over pieces, the
+//! lines of a text and the words of a line.
 //!
-//! `go_through` reads a `Source` in pieces, has a `Taker` make something of each, and write it to a `Sink`
-//! before the next is read. `play_stream` is such a loop over lines, each of which a `Player` answers.
+//! `go_through` reads a `Source` in pieces. A `Taker` processes each piece, and writes to a `Sink`
+//! before the next piece is read. `play_stream` is such a loop over lines; a `Player` answers each
+//! line.
 #![tactic(auto)]
 
 mod device_log;

@@ -1,4 +1,4 @@
-// Writes a text whole.
+// Writes a whole text.
 
 ghost use Rattle.std.specs.Prelude.{◌≡◌, ◌+◌, ◌++◌, OnOk};
 ghost use Rattle.octets.specs.Beginning.{IsBeginning};
@@ -12,7 +12,7 @@ use thiserror::Error;
 #[error("write failed")]
 pub struct WriteFailed;
 
-/// Writes the text, in as many calls as the sink needs. Where one of them fails the sink has taken a
+/// Writes the text, in as many calls as the sink needs. If one of them fails, the sink has taken a
 /// beginning of the text.
 /// Faults: WriteFailed. Cost: n.
 pub fn write_all<W: Sink>(writer: &mut W, text: &[u8]) -> Result<(), WriteFailed>

@@ -4,7 +4,7 @@ ghost use Rattle.std.specs.Prelude.{◌≡◌, ◌<◌, ◌==◌, length, IfSome
 ghost use Rattle.std.specs.List.{slice_split};
 ghost use Rattle.streams.specs.Words.{parts_from, two_words};
 
-/// The octets before the first one that is this mark, and those after it.
+/// Returns the octets before the first mark, and those after it if there is a mark.
 pub fn cut(octets: &[u8], mark: u8) -> (&[u8], Option<&[u8]>)
     ensures parts { slice_split (λ octet. octet == mark) octets.now
         ≡ parts_from mark result.0.now (option_copied result.1) }
@@ -16,7 +16,7 @@ pub fn cut(octets: &[u8], mark: u8) -> (&[u8], Option<&[u8]>)
     }
 }
 
-/// The words of octets, where they are two.
+/// Returns the words of the octets, if there are exactly two.
 #[tactic(auto, unfolding(crate::specs::Words::two_words))]
 pub fn two_words(octets: &[u8]) -> Option<(&[u8], &[u8])>
     ensures { option_map (λ two. (two.0.now, two.1.now)) result ≡ two_words octets.now }

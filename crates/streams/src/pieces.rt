@@ -9,18 +9,18 @@ use crate::fault::StreamFault;
 use crate::sink::Sink;
 use crate::source::Source;
 
-/// The most octets that are read of a stream.
+/// The maximum number of octets that are read from a stream.
 pub const MOST_OCTETS: u64 = 9_223_372_036_854_775_807;
 
-/// What takes a stream in pieces and writes of it: so a stream is listed, searched or played. `K` is what is
-/// kept for the caller, as a listing or a player.
+/// Takes a stream in pieces and writes what it makes of them. So a stream is listed, searched or
+/// played. `K` is what is kept for the caller, like a listing or a player.
 pub trait Taker<K, W: Sink> {
-    /// What is answered of the whole stream.
+    /// The answer for the whole stream.
     type Answer: Copy;
 
     ghost taking: { Taking Self K Self.Answer };
 
-    /// Takes a piece, after this many octets. With an answer it takes no more.
+    /// Takes a piece, after `before` octets. If it returns an answer, it takes no more.
     /// Faults: Write, Memory. Memory: yes. Cost: the taker's.
     fn take(
         &mut self,
@@ -40,7 +40,7 @@ pub trait Taker<K, W: Sink> {
         ensures failures { W.failures writer.new ≡ W.failures writer.old + writes_failed_in result }
         ensures faults { IfErr result (λ e. (e ≡ StreamFault.Write) ⊎ (e ≡ StreamFault.Memory)) };
 
-    /// The input has ended, after this many octets.
+    /// Ends the input, after this many octets, and returns the answer.
     /// Faults: Write, Memory. Memory: yes. Cost: the taker's.
     fn end(
         &mut self,
@@ -60,10 +60,11 @@ pub trait Taker<K, W: Sink> {
     ghost of_nothing: { (s : Self) (k : K) (text : List ℕ) → taking.so_far s k [] text text };
 }
 
-/// Reads a stream in pieces, each of which is taken before the next is read.
+/// Reads a stream in pieces; the taker takes each piece before the next is read. Returns the
+/// taker's answer.
 ///
-/// The fault is `Read` where the reader failed, `TooLong` past `MOST_OCTETS` octets, or the taker's; what is
-/// written by then is a beginning of the text.
+/// The fault is `Read` if the reader failed, `TooLong` beyond `MOST_OCTETS` octets, or the taker's
+/// fault. What is written by then is a beginning of the text.
 /// Faults: Read, Write, Memory, TooLong. Memory: the taker's. Cost: the number of octets, and the taker's.
 pub fn go_through<K, T: Taker<K, W>, R: Source, W: Sink>(
     reader: &mut R,

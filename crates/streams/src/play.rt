@@ -26,7 +26,7 @@ pub struct Progress {
     all_good: bool,
 }
 
-// Plays what is left as a line, after which nothing is.
+// Plays what is left as a line; then nothing is left.
 fn play_line<T: Gathered, P: Player<T>>(
     alloc: Global,
     player: &mut P,
@@ -66,7 +66,7 @@ fn play_parts<T: Gathered, P: Player<T>>(
     }
 }
 
-// A text that is played, and what its answers are gathered in.
+// A text that is played, and the buffer in which its answers are gathered.
 #[derive(Drop)]
 struct Lines<T> {
     alloc: Global,
@@ -124,7 +124,7 @@ impl<T: Gathered, P: Player<T>, W: Sink> Taker<P, W> for Lines<T> {
         }
     }
 
-    // Plays what is left, where anything is, as if a line feed ended it.
+    // Plays what is left, if anything is, as if a line feed ended it.
     fn end(&mut self, player: &mut P, writer: &mut W, _: u64) -> Result<bool, StreamFault> {
         if self.progress.left.is_empty() {
             return Ok(self.progress.all_good);
@@ -138,7 +138,7 @@ impl<T: Gathered, P: Player<T>, W: Sink> Taker<P, W> for Lines<T> {
     ghost of_nothing = { λ l p text. sym (append-nil text) };
 }
 
-// Writes answers whole.
+// Writes all of the answers.
 fn write_answers<W: Sink>(writer: &mut W, answers: &[u8]) -> Result<(), StreamFault>
     ensures ok { Writes result (W.taken_octets writer.old) (W.taken_octets writer.new) answers.now }
     ensures beginning { IsBeginning (W.taken_octets writer.new) (W.taken_octets writer.old ++ answers.now) }
@@ -151,8 +151,9 @@ fn write_answers<W: Sink>(writer: &mut W, answers: &[u8]) -> Result<(), StreamFa
     }
 }
 
-/// Plays the lines of a text that is at hand, what follows its last line feed too, and writes the answers, of
-/// some 4,096 octets and more at a time; they are gathered in `text`.
+/// Plays the lines of a text in memory, including what follows its last line feed, and writes the
+/// answers. They are gathered in `text`, and written whenever they have at least 4,096 octets, and
+/// at the end.
 /// Faults: Write, Memory; what is written by then is a beginning of the answers. Memory: yes. Cost: n, and
 /// the player's.
 pub fn play_lines<T: Gathered + Drop, P: Player<T>, W: Sink>(
@@ -191,12 +192,12 @@ pub fn play_lines<T: Gathered + Drop, P: Player<T>, W: Sink>(
     }
 }
 
-/// Reads a text in pieces, plays each line that a piece ends, and writes the answers before it reads the
-/// next; they are gathered in `text`. At the end it plays what is left, where that is not empty. It answers
-/// whether every line was good; the player is used again.
+/// Reads a text in pieces. Plays each line that a piece ends, and writes the answers before it
+/// reads the next piece; they are gathered in `text`. At the end it plays what is left, if that is
+/// not empty. Returns whether every line was good. The player can be used again.
 ///
-/// The fault is `Read` or `Write` where that device failed, `Memory` where none was left, and `TooLong`
-/// past `MOST_OCTETS` octets; what is written by then is a beginning of the answers.
+/// The fault is `Read` or `Write` if that device failed, `Memory` if memory ran out, and `TooLong`
+/// beyond `MOST_OCTETS` octets. What is written by then is a beginning of the answers.
 /// Faults: Read, Write, Memory, TooLong. Memory: yes. Cost: the number of octets, and the player's.
 pub fn play_stream<T: Gathered + Drop, P: Player<T>, R: Source, W: Sink>(
     alloc: Global,
@@ -209,7 +210,7 @@ pub fn play_stream<T: Gathered + Drop, P: Player<T>, R: Source, W: Sink>(
     ensures writes { WritesText W.taken_octets W.failures result writer.old writer.new
         (answers_of P.playing player.old (gained (R.given reader.old) (R.given reader.new))) }
 
-    // Before each read all lines that have ended are answered: so they are where it fails.
+    // All lines that have ended are answered before each read, so also before a read that fails.
     ensures in_time { result ≡ Err StreamFault.Read
         → W.taken_octets writer.new ≡ W.taken_octets writer.old
         ++ answers_so_far P.playing player.old (gained (R.given reader.old) (R.given reader.new)) }

@@ -1,19 +1,19 @@
-// What plays the lines of a text.
+// Players of the lines of a text.
 
 ghost use Rattle.std.specs.Prelude.{◌≡◌, ◌++◌, [], List, ℕ, OnOk, IfOk, string_bytes};
 ghost use Rattle.streams.specs.Player.{Playing};
 
 use std::alloc::{AllocError, Global};
 
-/// What answers are gathered in until they are written: a text, or octets.
+/// The buffer in which answers are gathered until they are written: a text, or octets.
 pub trait Gathered {
     ghost octets: { Self → List ℕ };
 
-    /// Has nothing any more.
+    /// Clears the buffer.
     fn clear(&mut self)
         ensures { octets self.new ≡ [] };
 
-    /// What was gathered.
+    /// Returns what was gathered.
     fn as_octets(&self) -> &[u8]
         ensures { result.now ≡ octets self.now };
 }
@@ -42,11 +42,12 @@ impl Gathered for Vec<u8> {
     }
 }
 
-/// What plays the lines of a text, one after another, with answers of the kind `T`.
+/// Plays the lines of a text, one after another, with answers of the kind `T`.
 pub trait Player<T: Gathered> {
     ghost playing: { Playing Self };
 
-    /// Plays a line, given without its line feed; appends its answer, and says whether it was good.
+    /// Plays a line, passed without its line feed, and appends its answer. Returns whether the line
+    /// was good.
     /// Faults: AllocError, after which the run ends. Memory: yes. Cost: the player's.
     fn play(&mut self, alloc: Global, line: &[u8], text: &mut T) -> Result<bool, AllocError>
         ensures text { OnOk result (T.octets text.new ≡ T.octets text.old ++ playing.answer self.old line.now) }

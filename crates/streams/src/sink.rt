@@ -1,4 +1,4 @@
-// Where text goes.
+// Devices that text is written to.
 
 ghost use Rattle.std.specs.Prelude.{◌≡◌, ◌≤◌, ◌+◌, ◌++◌, ℕ, List, Option, None, length, IfOk};
 ghost use Rattle.std.specs.Io.KnownBytes.{WriteAppends};
@@ -13,13 +13,14 @@ pub trait Sink {
     // The octets that its writes have taken.
     ghost taken_octets: { Self → List ℕ };
 
-    // How many of its writes have failed: answered an error, or took none of a text that is not empty.
+    // How many of its writes have failed: returned an error, or took nothing of a text that is not
+    // empty.
     ghost failures: { Self → ℕ };
 
-    // The octets that it holds, where they are known.
+    // The octets that it holds, if they are known.
     ghost contents: { Self → Option (List ℕ) } = { λ _. None };
 
-    /// Writes a beginning of the text, and answers how many octets of it.
+    /// Writes a beginning of the text, and returns how many octets this has.
     /// Faults: an error of the standard library. Memory: the device's. Cost: the device's.
     fn write(&mut self, text: &[u8]) -> io::Result<usize>
         ensures count { IfOk result (λ n. n ≤ length text.now) }
@@ -28,7 +29,7 @@ pub trait Sink {
         ensures appends { WriteAppends (contents self.old) (contents self.new) result text.now };
 }
 
-/// A writer of the standard library as a sink, of which contracts see what its writes did.
+/// A writer of the standard library as a sink. Contracts see what its writes did.
 #[derive(Drop)]
 pub struct Writer<W> {
     inner: W,
@@ -39,7 +40,7 @@ impl<W> Writer<W> {
     ghost use Rattle.std.specs.Prelude.{[], false};
     ghost use Rattle.streams.specs.Devices.{IsLogOf};
 
-    /// This writer, of which no write was made yet.
+    /// Creates a sink from this writer, before any write.
     pub fn new(inner: W) -> Self
         ensures inner { result.inner ≡ inner }
         ensures log { IsLogOf result.log [] false 0 }
@@ -50,7 +51,7 @@ impl<W> Writer<W> {
         }
     }
 
-    /// The writer inside.
+    /// Returns the writer inside.
     pub fn get_ref(&self) -> &W
         ensures { result.now ≡ self.now.inner }
     {

@@ -1,4 +1,4 @@
-// Where octets come from.
+// Devices that octets are read from.
 
 ghost use Rattle.std.specs.Prelude.{◌≡◌, ◌≤◌, ◌<◌, ◌+◌, ◌++◌, ℕ, Bool, List, length};
 ghost use Rattle.std.specs.Prelude.{Option, None, IfOk};
@@ -20,10 +20,11 @@ pub trait Source {
     // How many of its reads have failed.
     ghost failures: { Self → ℕ };
 
-    // The octets that its reads will give from here on, where they are known.
+    // The octets that its reads will give from here on, if they are known.
     ghost remaining: { Self → Option (List ℕ) } = { λ _. None };
 
-    /// Reads octets into the front of a piece that is not empty, and answers how many; 0 at the end.
+    /// Reads octets into the front of a piece that is not empty, and returns how many; 0 at the
+    /// end.
     /// Faults: an error of the standard library. Memory: the device's. Cost: the device's.
     fn read(&mut self, piece: &mut [u8]) -> io::Result<usize>
         requires { 0 < length piece.old }
@@ -35,7 +36,7 @@ pub trait Source {
             result piece.new };
 }
 
-/// A reader of the standard library as a source, of which contracts see what its reads did.
+/// A reader of the standard library as a source. Contracts see what its reads did.
 #[derive(Drop)]
 pub struct Reader<R> {
     inner: R,
@@ -46,7 +47,7 @@ impl<R> Reader<R> {
     ghost use Rattle.std.specs.Prelude.{[], false};
     ghost use Rattle.streams.specs.Devices.{IsLogOf};
 
-    /// This reader, of which no read was made yet.
+    /// Creates a source from this reader, before any read.
     pub fn new(inner: R) -> Self
         ensures inner { result.inner ≡ inner }
         ensures log { IsLogOf result.log [] false 0 }
@@ -57,7 +58,7 @@ impl<R> Reader<R> {
         }
     }
 
-    /// The reader inside.
+    /// Returns the reader inside.
     pub fn get_ref(&self) -> &R
         ensures { result.now ≡ self.now.inner }
     {

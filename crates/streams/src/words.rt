@@ -11,7 +11,7 @@ ghost use Rattle.streams.specs.Words.{starts_well, is_numeral, number_in_word, o
 use std::alloc::{AllocError, Global};
 use std::str;
 
-/// Whether a word is this one.
+/// Returns whether a word is this text.
 #[inline(always)]
 pub fn is(word: &[u8], text: &str) -> bool
     ensures { result ≡ bytes_eq word.now text.now }
@@ -19,7 +19,7 @@ pub fn is(word: &[u8], text: &str) -> bool
     word == text.as_bytes()
 }
 
-/// What stands after these words, where a line begins with them.
+/// Returns what follows these words, if a line begins with them.
 #[tactic(auto, unfolding(crate::specs::Words::rest_after))]
 pub fn rest_after<'a>(line: &'a [u8], words: &str) -> Option<&'a [u8]>
     ensures { option_copied result ≡ rest_after words.now line.now }
@@ -27,7 +27,8 @@ pub fn rest_after<'a>(line: &'a [u8], words: &str) -> Option<&'a [u8]>
     line.strip_prefix(words.as_bytes())
 }
 
-// Whether a word is not empty and, but for a single one, begins with no zero.
+// Returns whether a word is not empty and, unless it has only one octet, does not begin with the
+// digit 0.
 fn starts_well(word: &[u8]) -> bool
     ensures { result ≡ starts_well word.now }
 {
@@ -38,14 +39,14 @@ fn starts_well(word: &[u8]) -> bool
     }
 }
 
-/// Whether a word is decimal digits, with no zero before others.
+/// Returns whether a word consists of decimal digits, without a leading zero.
 fn is_numeral(word: &[u8]) -> bool
     ensures { result ≡ is_numeral word.now }
 {
     starts_well(word) && word.iter().all(|octet| octet.is_ascii_digit())
 }
 
-// The number that a numeral is, where 64 bits hold it.
+// Returns the number that a numeral spells, if 64 bits hold it.
 fn value_of(word: &[u8]) -> Option<u64>
     requires { is_numeral word.now ≡ true }
     ensures { SomeIff result (digits_value 10 word.now < 2 ^ 64) (digits_value 10 word.now) }
@@ -56,7 +57,7 @@ fn value_of(word: &[u8]) -> Option<u64>
     }
 }
 
-/// The number that a word is, where it is no greater than `most`.
+/// Returns the number that a word spells, if it is not greater than `most`.
 #[tactic(auto, unfolding(crate::specs::Words::number_in_word))]
 pub fn number_in_word(word: &[u8], most: u64) -> Option<u64>
     ensures number { result ≡ number_in_word most word.now }
@@ -83,7 +84,7 @@ fn are_pairs(word: &[u8]) -> bool
     word.len() % 2 == 0 && word.iter().all(|octet| is_hex_digit(*octet))
 }
 
-/// Whether a word is octets, as pairs of digits; `-` is none.
+/// Returns whether a word spells octets, as pairs of digits; `-` spells no octets.
 #[tactic(auto, unfolding(crate::specs::Words::octets_in_word))]
 pub fn is_octets(word: &[u8]) -> bool
     ensures { result ≡ is_some (octets_in_word word.now) }
@@ -91,8 +92,8 @@ pub fn is_octets(word: &[u8]) -> bool
     is(word, "-") || (!word.is_empty() && are_pairs(word))
 }
 
-/// The octets that a word is, as pairs of digits; `-` is none. A word that is not octets has none, however
-/// little memory there is.
+/// Returns the octets that a word spells, as pairs of digits; `-` spells no octets. Returns None
+/// for a word that does not spell octets, however little memory there is.
 /// Faults: `AllocError`. Memory: yes. Cost: n.
 #[tactic(auto, unfolding(crate::specs::Words::octets_in_word))]
 pub fn octets_in_word(alloc: Global, word: &[u8]) -> Result<Option<Vec<u8>>, AllocError>
@@ -111,7 +112,8 @@ pub fn octets_in_word(alloc: Global, word: &[u8]) -> Result<Option<Vec<u8>>, All
     }
 }
 
-/// The octets of digits that a line carries; none of a word that is not octets.
+/// Returns the octets that the digits of a line spell, and no octets if the word does not spell
+/// octets.
 /// Faults: `AllocError`. Memory: yes. Cost: n.
 pub fn octets_of_digits(alloc: Global, digits: &[u8]) -> Result<Vec<u8>, AllocError>
     ensures { IfOk result (λ octets. octets.items ≡ octets_of_digits digits.now) }

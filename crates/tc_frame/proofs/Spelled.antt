@@ -1,4 +1,4 @@
--- Data fields and bodies: what is read is spelled so, and what is spelled so is read.
+-- Data fields and bodies are read exactly as they are spelled.
 use Rattle.std.proofs.Common.{◌≡◌, ◌<◌, ◌≤◌, ℕ, zero, suc, ◌+◌, ◌*◌, ◌/◌, ◌%◌, Bool, true, false}
 use Rattle.std.proofs.Common.{not, eqb, List, [], ◌∷◌, length, get_or, Ok, refl, ap, subst, ◌∙◌}
 use Rattle.std.proofs.Common.{arith, ◌-◌, cond, ltb, take, drop, Result, Err, sym, ◌++◌}
@@ -159,11 +159,11 @@ flags_below (Ad n s) = (omega arith, omega arith)
 flags_below (Bd s) = (omega arith, omega arith)
 flags_below (Bc c) = (omega arith, omega arith)
 
--- Frames: what is read is spelled so, and what is spelled so is read.
+-- Frames are read exactly as they are spelled.
 
 -- ---- the header's first number
 
--- from the flags that were read, where version and spare are 00
+-- from the flags that were read, if version and spare are 00
 first_is : (first : ℕ) (body : BodyView) → first / 16384 ≡ 0 → first / 1024 % 4 ≡ 0
     → eqb (first / 8192 % 2) 1 ≡ eqb (bypass_flag body) 1 → eqb (first / 4096 % 2) 1 ≡ eqb (control_flag body) 1
     → first ≡ 8192 * bypass_flag body + 4096 * control_flag body + first % 1024
@@ -175,7 +175,7 @@ first_is first body version spare b c =
     flag_from (first / 4096 % 2) (omega arith) (control_flag body) (omega arith) c in
     omega arith
 
--- a type that isn't reserved
+-- a type that is not reserved
 type_from : (bypass control both : ℕ) → bypass < 2 → control < 2 → both ≡ 2 * bypass + control → eqb both 1 ≡ false
     → not (eqb bypass 1) && eqb control 1 ≡ false
 type_from zero zero both p q e h = refl
@@ -269,7 +269,7 @@ frame_again check b f h =
     let body = body_again (get_or b 4 0) (drop 5 (take front b)) f.body rest h.fits in
     rw (short, version, type, spare, total, least, checked, bypass, control, body, scid, vcid) refl
 
--- what a decoder answered
+-- what a decoder returned
 pub is_found : (check : Check) (b : List ℕ) (r : Result TcFrame TcFault) → ((i : ℕ) → get_or b i 0 < 256)
     → map_ok frame_view r ≡ frame_at check b → IfOk r (λ f. IsTcFrame check (frame_view f) b)
 is_found check b (Ok f) octets h = frame_is check b (frame_view f) octets (sym h)

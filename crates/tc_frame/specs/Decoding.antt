@@ -40,7 +40,7 @@ command_at (a ∷ b ∷ []) = Err faults.Command
 command_at (a ∷ b ∷ x ∷ []) = if (a == 0x82) && (b == 0) then Ok (SetVr x) else Err faults.Command
 command_at (a ∷ b ∷ x ∷ y ∷ octets) = Err faults.Command
 
--- a data field under these flags and this number
+-- a data field with these flags and this number
 unfoldable pub body_at : Bool → Bool → ℕ → List ℕ → Result BodyView TcFault
 body_at bypass control n field =
     if bypass && not (n == 0) then Err faults.BypassNumber
@@ -48,11 +48,11 @@ body_at bypass control n field =
     else if bypass then map_ok Bd (segment_at field)
     else map_ok (Ad n) (segment_at field)
 
--- the fewest octets that a frame may declare: its header, and its check where that is on
+-- the minimum total that a frame may declare: its header, and its check if this is on
 abbrev pub least_total : Check → ℕ
 least_total check = 5 + check_length check
 
--- the last two octets aren't the check of those before them, though it is on
+-- the check is on, but the last two octets are not the check of the octets before them
 abbrev pub is_check_wrong : Check → List ℕ → Bool
 is_check_wrong Off b = false
 is_check_wrong On b = not (number_of (drop (length b - 2) b) == check_of (take (length b - 2) b))

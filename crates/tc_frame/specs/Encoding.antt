@@ -27,7 +27,7 @@ abbrev pub front_octets : Check → FrameView → List ℕ
 front_octets check f =
     big_bytes 2 (first_number f) ++ (big_bytes 2 (second_number check f) ++ body_octets f.body)
 
--- octets with their check after them, where it is on (4.1.4)
+-- octets followed by their check, if it is on (4.1.4)
 abbrev pub with_check : Check → List ℕ → List ℕ
 with_check On octets = octets ++ big_bytes 2 (check_of octets)
 with_check Off octets = octets
@@ -35,12 +35,12 @@ with_check Off octets = octets
 abbrev pub spelling : Check → FrameView → List ℕ
 spelling check f = with_check check (front_octets check f)
 
--- each field is in its range, and there are at most 1,024 octets
+-- each field is in range, and there are at most 1,024 octets
 abbrev pub frame_fits : Check → FrameView → Bool
 frame_fits check f =
     nat_lt f.scid 1024 && nat_lt f.vcid 64 && body_fits f.body && nat_le (total_of check f) 1024
 
--- how many octets are written where there is room for this many, or why none are
+-- the number of octets that are written if there is room for this many, or why none are written
 abbrev pub encode_answer : Check → FrameView → ℕ → Result ℕ TcFault
 encode_answer check f room =
     count_written (frame_fits check f) (total_of check f) room faults.FieldRange faults.Room

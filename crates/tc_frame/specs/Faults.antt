@@ -1,4 +1,4 @@
--- The refusals of telecommand frames: a row each.
+-- The faults of telecommand frames, one row each.
 use Rattle.std.specs.Prelude.{ℕ, List, codes}
 use Rattle.tc_frame.specs.declared.fault.TcFault.{TcFault}
 use Rattle.tc_frame.specs.declared.fault.TcFault.TheVariants.{Short, Version, ReservedType, Spare}

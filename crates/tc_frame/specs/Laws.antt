@@ -23,7 +23,7 @@ use Rattle.tc_frame.specs.Splitter.{total_at, IsSpelling}
 use Rattle.tc_frame.specs.Encoding.{total_of, first_number, second_number, front_octets, with_check}
 use Rattle.tc_frame.specs.Encoding.{spelling}
 
--- a declared total that is enough has the header
+-- a declared total that is accepted includes the header
 pub total_has_head : (check : Check) (head : List ℕ) (n : ℕ) → total_at check head ≡ Ok n → 5 ≤ n
 total_has_head check head n h =
     let total : ℕ = number_of (take 2 (drop 2 head)) % 1024 + 1 in
@@ -32,7 +32,7 @@ total_has_head check head n h =
     let least : least_total check ≤ total = ltb-false _ _ enough.0 in
     omega arith
 
--- a body has its number and at least one octet more
+-- a body has its number and at least one more octet
 pub body_long : (body : BodyView) → IsTrue (body_fits body) → 2 ≤ length (body_octets body)
 body_long (Ad n s) fits = omega arith
 body_long (Bd s) fits = omega arith
@@ -51,7 +51,7 @@ total_is check f b h =
           (arith, length-drop 4 (take front b), length-take front b),
     )
 
--- the octets of a frame have its head, which declares their number
+-- the octets of a frame begin with its head, which declares their number
 pub own_total : (check : Check) (f : FrameView) (b : List ℕ) → IsTcFrame check f b
     → (5 ≤ length b) × (total_at check (take 5 b) ≡ Ok (length b))
 own_total check f b h =

@@ -15,7 +15,7 @@ use Rattle.tc_frame.specs.declared.frame.Body.{Body}
 use Rattle.tc_frame.specs.declared.frame.Body.TheVariants as bodies
 use Rattle.tc_frame.specs.declared.frame.TcFrame.{TcFrame}
 
--- ---- a frame without where its payload lies in memory
+-- ---- a frame without the place of its payload in memory
 
 pub record SegmentView : Type 0 where
   pub header : SegmentHeader
@@ -44,7 +44,7 @@ frame_view f = record { scid = f.scid; vcid = f.vcid; body = body_view f.body }
 
 -- ---- the header's flags (4.1.2.3)
 
--- 1 for frames that bypass the sequence control
+-- 1 for frames that bypass sequence control
 abbrev pub bypass_flag : BodyView → ℕ
 bypass_flag (Ad n s) = 0
 bypass_flag (Bd s) = 1
@@ -74,13 +74,13 @@ abbrev pub command_octets : Command → List ℕ
 command_octets Unlock = 0 ∷ []
 command_octets (SetVr x) = 0x82 ∷ 0 ∷ x ∷ []
 
--- N(S), which is 0 in frames that bypass, and then the data field
+-- N(S), which is 0 in bypass frames, followed by the data field
 abbrev pub body_octets : BodyView → List ℕ
 body_octets (Ad n s) = n ∷ segment_octets s
 body_octets (Bd s) = 0 ∷ segment_octets s
 body_octets (Bc c) = 0 ∷ command_octets c
 
--- the MAP is in its range, and there is at least one octet after the segment header
+-- the MAP is in range, and there is at least one octet after the segment header
 abbrev pub segment_fits : SegmentView → Bool
 segment_fits s = nat_lt s.header.map 64 && nat_lt 0 (length s.payload)
 
@@ -91,7 +91,7 @@ body_fits (Bc c) = true
 
 -- ---- the check (4.1.4)
 
--- the octets that it takes at the end of a frame
+-- the number of octets that the check takes at the end of a frame
 abbrev pub check_length : Check → ℕ
 check_length On = 2
 check_length Off = 0

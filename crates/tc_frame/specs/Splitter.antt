@@ -1,4 +1,4 @@
--- What a splitter of frames holds.
+-- What a splitter of frames contains.
 use Rattle.std.specs.Prelude.{ℕ, List, Option, Result, ◌<◌, ◌+◌, ◌%◌, take, drop, slice_index, Bool}
 use Rattle.std.specs.Prelude.{true, false, nat_lt, if◌then◌else◌, Ok, Err}
 use Rattle.std.specs.Borrow.{Fml, MutBor, RattleType}
@@ -19,7 +19,7 @@ abbrev pub held_in : {C : Type 0} {layout : wire.Ghosts C TcFault} → TcSplitte
     → Held TcFault
 held_in s = held s.0
 
--- once what the answer lends is let go
+-- what the splitter is once the loan of the answer has ended
 abbrev pub EndsAfter : (C : RattleType) (layout : wire.Ghosts C.Denot TcFault)
     → MutBor (TcSplitter C.Denot layout) → Option (Result (List ℕ) TcFault) → Fml
 EndsAfter C layout s answer = lending.EndsAfter (the_row C layout) s held_in answer
@@ -31,7 +31,7 @@ abbrev pub check_if : Bool → Check
 check_if true = On
 check_if false = Off
 
--- the declared total of the frame that begins so, where it is enough for a frame
+-- the declared total of the frame that begins with this head, if it is enough for a frame
 abbrev pub total_at : Check → List ℕ → Result ℕ TcFault
 total_at check head =
     let total : ℕ = number_of (take 2 (drop 2 head)) % 1024 + 1 in

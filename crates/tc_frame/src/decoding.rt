@@ -9,8 +9,8 @@ use crate::fault::TcFault;
 use crate::frame::{Body, Check, Command, Segment, SegmentFlags, SegmentHeader, TcFrame};
 use octets::{check_holds, first_two};
 
-/// Reads all of the octets as one frame, with or without the FECF at its end (CCSDS 232.0-B-4, 4.1),
-/// or says the first of the faults that applies. The frame borrows its data from the octets.
+/// Reads all of the octets as one frame, with or without the FECF at its end (CCSDS 232.0-B-4, 4.1). The
+/// frame borrows its data from the octets. Refuses with the first fault that applies.
 /// Faults: 1 Short, 2 Version, 3 ReservedType, 4 Spare, 5 Length, 6 Check, 7 BypassNumber, 8 EmptyData,
 /// 9 Command. Cost: n.
 #[inline(always)]
@@ -18,7 +18,7 @@ use octets::{check_holds, first_two};
 pub fn decode(octets: &[u8], check: Check) -> Result<TcFrame<'_>, TcFault>
     ensures answer { map_ok frame_view result ≡ frame_at check octets.now }
 
-    // It is a frame exactly where the octets spell one.
+    // It is a frame exactly when the octets spell one.
     ensures found { IfOk result (λ f. IsTcFrame check (frame_view f) octets.now) }
     ensures only { (f : FrameView) → IsTcFrame check f octets.now
         → map_ok frame_view result ≡ Ok f }

@@ -11,9 +11,9 @@ use crate::frame::{Body, Check, Command, Segment, TcFrame};
 use byteorder::{BigEndian, ByteOrder};
 use octets::append_check;
 
-/// Writes the frame, with or without its FECF, at the beginning of `out`, and says how many octets
-/// it has: at most 1,024 (CCSDS 232.0-B-4, 4.1). Refuses by 11 `FieldRange` a field out of its range,
-/// empty data and a longer frame, and then by 10 `Room` an output that is too short.
+/// Writes the frame, with or without its FECF, at the beginning of `out`, and returns its length:
+/// at most 1,024 octets (CCSDS 232.0-B-4, 4.1). Refuses with 11 `FieldRange` a field out of range,
+/// empty data or a longer frame, and then with 10 `Room` an output that is too short.
 /// Faults: 11 FieldRange, then 10 Room. Cost: n.
 pub fn encode(frame: &TcFrame, check: Check, out: &mut [u8]) -> Result<usize, TcFault>
     ensures answer { result ≡ encode_answer check (frame_view frame.now) (length out.old) }
@@ -58,7 +58,8 @@ impl TcFrame<'_> {
     ghost use Rattle.tc_frame.specs.Layout.{frame_view};
     ghost use Rattle.tc_frame.specs.Encoding.{total_of};
 
-    /// How many octets the frame has, with or without its FECF (CCSDS 232.0-B-4, 4.1.2.7).
+    /// Returns the number of octets in the frame, with or without its FECF (CCSDS 232.0-B-4,
+    /// 4.1.2.7).
     pub fn total(&self, check: Check) -> usize
         ensures { result ≡ total_of check (frame_view self.now) }
     {

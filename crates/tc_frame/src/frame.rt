@@ -12,14 +12,15 @@ pub enum Check {
     Off,
 }
 
-/// Where a segment stands in what it is a part of (CCSDS 232.0-B-4, 4.1.3.2.2.2).
+/// A segment's sequence flags: its position among the segments of its data (CCSDS 232.0-B-4,
+/// 4.1.3.2.2.2).
 #[derive(Clone, Copy, Debug, PartialEq, Eq)]
 pub enum SegmentFlags {
-    /// Neither the first nor the last of them.
+    /// Neither the first nor the last of several.
     Continuing,
     /// The first of several.
     First,
-    /// The last of them.
+    /// The last of several.
     Last,
     /// The only one.
     Alone,
@@ -29,8 +30,8 @@ impl SegmentFlags {
     ghost use Rattle.tc_frame.specs.Layout.{flags_code};
     ghost use Rattle.tc_frame.specs.Decoding.{flags_at};
 
-    /// The two bits in which a segment header has them: 0 continuing, 1 first, 2 last, 3 alone
-    /// (CCSDS 232.0-B-4, 4.1.3.2.2.2).
+    /// Returns the two bits that encode the flags in a segment header: 0 continuing, 1 first, 2
+    /// last, 3 alone (CCSDS 232.0-B-4, 4.1.3.2.2.2).
     pub fn code(self) -> u8
         ensures { result ≡ flags_code self }
     {
@@ -42,7 +43,7 @@ impl SegmentFlags {
         }
     }
 
-    /// The flags of this code; those of a code over 3 are `Alone`.
+    /// Returns the flags with this code; a code above 3 yields `Alone`.
     pub fn with_code(code: u8) -> SegmentFlags
         ensures { result ≡ flags_at code }
     {
@@ -59,7 +60,7 @@ impl SegmentFlags {
 /// 232.0-B-4, 4.1.3.2.2).
 #[derive(Clone, Copy, Debug, PartialEq, Eq)]
 pub struct SegmentHeader {
-    /// Where the segment stands in its packet.
+    /// The segment's position in its packet.
     pub flags: SegmentFlags,
     /// The MAP identifier, below 64.
     pub map: u8,
@@ -68,7 +69,7 @@ pub struct SegmentHeader {
 impl SegmentHeader {
     ghost use Rattle.tc_frame.specs.Layout.{header_octet};
 
-    /// The header as an octet.
+    /// Returns the header as an octet.
     pub fn octet(self) -> u8
         requires { self.map < 64 }
         ensures { result ≡ header_octet self }
@@ -101,9 +102,9 @@ pub enum Command {
 pub enum Body<'a> {
     /// Sequence-controlled data, with the frame sequence number N(S).
     Ad { n: u8, segment: Segment<'a> },
-    /// Data that bypass the sequence control.
+    /// Data that bypass sequence control.
     Bd { segment: Segment<'a> },
-    /// A control command, which bypasses it too.
+    /// A control command, which also bypasses sequence control.
     Bc(Command),
 }
 
@@ -114,6 +115,6 @@ pub struct TcFrame<'a> {
     pub scid: u16,
     /// The virtual channel identifier, below 64.
     pub vcid: u8,
-    /// What it carries, with the flags that say so.
+    /// What the frame carries, which determines its flags.
     pub body: Body<'a>,
 }

@@ -34,7 +34,7 @@ fn declared_total(head: &[u8], check: Check) -> Result<usize, TcFault>
     Ok(total)
 }
 
-/// With an FECF where the frames end with it, and without one elsewhere.
+/// Returns `On` if the frames end with their FECF, and `Off` otherwise.
 pub fn check_if(checked: bool) -> Check
     ensures { result ≡ check_if checked }
 {

@@ -1,8 +1,8 @@
 //! Telecommand transfer frames (CCSDS 232.0-B-4, 4.1), with or without their check.
 //!
-//! `decode` reads octets that are exactly one frame, and otherwise says the first fault; `encode`
-//! writes the one spelling of a frame. `TcSplitter` takes a stream of frames apart, by the layout
-//! `Checked` or `Unchecked`.
+//! `decode` reads octets that are exactly one frame, and otherwise returns the first fault.
+//! `encode` writes the one spelling of a frame. `TcSplitter` splits a stream into frames, with the
+//! layout `Checked` or `Unchecked`.
 #![tactic(auto)]
 
 mod decoding;

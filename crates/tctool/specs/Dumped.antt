@@ -1,4 +1,4 @@
--- What the commands write of the octets of a file, those that play it among them.
+-- What the commands write for the octets of a file, including the commands that run it.
 use Rattle.std.specs.Prelude.{◌≡◌, Bool, List, ℕ, ◌++◌, Option, Some, None, Result, Err}
 use Rattle.script.specs.Ending as ends
 use Rattle.script.specs.Ending.{script_ending, script_text}
@@ -23,7 +23,7 @@ as_outcome ends.Good = Good
 as_outcome (ends.Unreadable line) = Unreadable line
 as_outcome (ends.OutOfRange field) = OutOfRange field
 
--- how lines end, by the number of the first one that is unreadable
+-- how lines end, by the number of the first unreadable one
 abbrev pub as_read : Option ℕ → OutcomeView
 as_read None = Good
 as_read (Some line) = Unreadable line
@@ -37,8 +37,8 @@ lines_of count tasks.Spacecraft octets =
     answers_of (node_playing spacecraft_rules) fresh_player octets
 lines_of count task octets = shown_lines count task octets
 
--- a node has answered all lines that had ended, where a read of more fails: so it answers them
--- before each read
+-- if a read fails, a node has answered all lines that had ended; so it answers them before each
+-- read
 abbrev pub AnswersInTime : Task → Result Outcome StreamFault → (old new octets : List ℕ) → Type 0
 AnswersInTime tasks.Ground result old new octets =
     result ≡ Err Read
@@ -48,8 +48,8 @@ AnswersInTime tasks.Spacecraft result old new octets =
     → new ≡ old ++ answers_so_far (node_playing spacecraft_rules) fresh_player octets
 AnswersInTime task result old new octets = Unit {0}
 
--- Good exactly where every record is good and nothing is left, every line of a record is readable,
--- or every line that a node is asked is good; a script is judged whole
+-- Good exactly when every record is good and nothing is left, every line of a record is readable,
+-- or every line of a node is good; a script is judged as a whole
 abbrev pub outcome_for : Task → List ℕ → OutcomeView
 outcome_for (tasks.Encode check skips) octets =
     as_read (unreadable_in skips (check_if check) octets)

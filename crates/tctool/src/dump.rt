@@ -1,4 +1,4 @@
-// Reads a file, and writes what the words ask for of it.
+// Reads a file, and writes what the arguments request.
 
 ghost use Rattle.std.specs.Prelude.{◌≡◌, ◌⊎◌, OnOk, IfOk};
 ghost use Rattle.command_line.specs.Arguments.{IsInRange};
@@ -18,19 +18,18 @@ use std::alloc::Global;
 use stream_commands::{Note, Outcome, list};
 use streams::{Sink, Source, StreamFault};
 
-/// Reads the input to its end, in pieces, and writes the lines that the words ask for: of each piece
-/// before the next is read, but of a script once all of it is read. A node answers each line of a piece. For
-/// `Task::Encode` octets are written in place of lines. Where the words ask to count them, the totals of the
-/// lines of a file that is listed are written in place of them.
+/// Reads the input to its end, in pieces, and writes the lines that the arguments request. It writes the
+/// lines of each piece before it reads the next, but runs a script only when all of it is read. A node
+/// answers each line of a piece. For `Task::Encode` octets are written instead of lines. If totals are
+/// requested, they are written instead of the lines of a file that is listed.
 ///
-/// An `Ok` says that all lines are written and nothing else, and whether every record was good. Where
-/// a record declares a length that none can have, its line is the last and nothing more is read. Of a
-/// script that is not played nothing is written, and nothing of lines that `Task::Encode` reads from the first
-/// unreadable one on. The
-/// fault is `Read` or `Write` where that device failed, `Memory` where none was left, and `TooLong`
-/// past `MOST_OCTETS` octets; what is written by then is a beginning of the lines. A call that failed
-/// is the last of its device. Of a line of a script that is unreadable the cause is left, and
-/// of the records of a file what is noted.
+/// An `Ok` states that all lines and nothing else were written, and whether every record was good. If a
+/// record declares an impossible length, its line is the last and nothing more is read. Nothing is written
+/// for a script that is not run, nor for lines that `Task::Encode` reads from the first unreadable one on.
+/// The fault is `Read` or `Write` if that device failed, `Memory` if memory ran out, and `TooLong` beyond
+/// `MOST_OCTETS` octets. What is written by then is a beginning of the lines. A call that failed is the last
+/// one of its device. The cause of a script's unreadable line is left in `cause`, and what is noted about the
+/// records of a file in `note`.
 pub fn dump<R: Source, W: Sink>(
     alloc: Global,
     reader: &mut R,

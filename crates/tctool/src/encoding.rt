@@ -14,8 +14,8 @@ use stream_commands::Outcome;
 use streams::{Sink, Source, StreamFault};
 use tc_frame::check_if;
 
-/// Writes the octets of lines, up to the first one that is unreadable; with `check` frames of fields get their
-/// FECF, and with `skips` lines in which no octets are to stand have none.
+/// Writes the octets of lines, up to the first unreadable one. With `check`, frames that are spelled by their
+/// fields get their FECF. With `skips`, lines not meant to carry octets have none.
 pub fn encode<R: Source, W: Sink>(
     alloc: Global,
     reader: &mut R,

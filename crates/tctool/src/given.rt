@@ -1,4 +1,4 @@
-// The words that the program was given.
+// The arguments of the program.
 
 ghost use Rattle.std.specs.Prelude.{◌≡◌, IfOk, map, string_bytes};
 
@@ -6,7 +6,7 @@ use std::alloc::{AllocError, Global};
 use std::env::{Env, FillError};
 use std::str::from_utf8;
 
-/// The words that the program was given, its name first. What is not Unicode in them stands as U+FFFD.
+/// The arguments of the program, its name first. What is not Unicode in them becomes U+FFFD.
 #[derive(Drop)]
 pub struct GivenWords {
     words: Vec<String>,
@@ -32,12 +32,12 @@ impl GivenWords {
         Ok(given)
     }
 
-    /// Whether all words after the program's name are Unicode.
+    /// Returns whether all arguments after the program's name are Unicode.
     pub fn is_unicode(&self) -> bool {
         self.is_unicode
     }
 
-    /// The words as texts, in their order.
+    /// Returns the arguments as texts, in their order.
     pub fn texts(&self, alloc: Global) -> Result<Vec<&str>, AllocError>
         ensures { IfOk result (λ texts. map (λ text. text.now) texts.items
             ≡ map string_bytes self.now.words.items) }
@@ -46,7 +46,7 @@ impl GivenWords {
     }
 }
 
-// The octets of a word, for which the buffer is doubled until they fit.
+// Returns the octets of an argument. The buffer is doubled until they fit.
 fn octets_of_word(
     env: &impl Env,
     alloc: Global,

@@ -1,6 +1,6 @@
-//! The command `tctool`: what files of telecommand frames, telemetry frames and space packets hold, what a
-//! receiver makes of telecommand frames and which packets come out of them, what octets lines of frames and
-//! packets have, what scripts of a simulated link answer, and what a node answers that is played line by line.
+//! The command `tctool`. It lists what files of telecommand frames, telemetry frames, CLCWs and space packets
+//! hold. It lists what a receiver does with telecommand frames, and the packets from these frames. It encodes
+//! lines of frames and packets, runs scripts of a simulated link, and runs a node line by line.
 #![tactic(auto)]
 
 ghost use Rattle.command_line.specs.Arguments.{IsInRange};
@@ -31,7 +31,7 @@ fn main(rt: HostRuntime) -> ExitCode {
     })
 }
 
-// Writes a fault to standard error, and answers the status.
+// Writes a fault to standard error, and returns the status.
 fn fails(rt: &HostRuntime, fault: StreamFault) -> u8 {
     ending(&Err(fault), &mut Writer::new(rt.stderr()))
 }
@@ -51,7 +51,7 @@ fn status_for(rt: &HostRuntime, given: &GivenWords) -> u8 {
     }
 }
 
-// Prints what the parser of the words answers.
+// Prints what the parser of the arguments answers.
 fn answer(rt: &HostRuntime, error: &Error) -> u8 {
     if error.kind() == ErrorKind::OutOfMemory {
         return fails(rt, StreamFault::Memory);
@@ -72,8 +72,8 @@ fn cannot_open(rt: &HostRuntime, file: &str, cause: &str) -> u8 {
     3
 }
 
-// Writes a second line with the file and the cause, but only to a terminal: a program that reads standard error
-// gets one line.
+// Writes a second line with the file and the cause, but only to a terminal: a program that reads standard
+// error gets one line.
 fn explain(rt: &HostRuntime, file: &str, cause: &str) {
     if !rt.stderr().is_terminal() {
         return;
@@ -94,7 +94,7 @@ fn run(rt: &HostRuntime, options: &Options) -> u8
     }
 }
 
-// The octets of a file that has an end that can be looked for.
+// Returns the length of a file whose end can be found.
 fn length_of(file: Option<&File>) -> Option<u64> {
     let mut file = file?;
     file.seek(SeekFrom::End(0)).ok()

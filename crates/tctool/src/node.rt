@@ -1,4 +1,4 @@
-// `tctool ground` and `tctool spacecraft`: a node that is played line by line.
+// `tctool ground` and `tctool spacecraft`: a node that is run line by line.
 
 ghost use Rattle.std.specs.Prelude.{◌≡◌, ◌++◌, Err, OnOk, IfOk};
 ghost use Rattle.streams.specs.Player.{answers_of, answers_so_far, is_all_good};
@@ -12,7 +12,7 @@ use std::alloc::Global;
 use stream_commands::Outcome;
 use streams::{Sink, Source, StreamFault, play_stream};
 
-/// Plays a node: answers the lines of each piece of the input before the next is read.
+/// Runs a node: answers the lines of each piece of the input before the next is read.
 pub fn play_node<N: Node + Drop, R: Source, W: Sink>(
     alloc: Global,
     reader: &mut R,

@@ -6,7 +6,7 @@ use std::io;
 use std::io::ErrorKind;
 use streams::Source;
 
-/// A source, whether a read found its end, and of its last read that failed why it did.
+/// A source, whether a read found its end, and why its last failed read failed.
 #[derive(Drop)]
 pub struct Noting<S> {
     source: S,
@@ -15,7 +15,7 @@ pub struct Noting<S> {
 }
 
 impl<S> Noting<S> {
-    /// This source, of which no read has failed yet.
+    /// Creates a source before its first read.
     pub fn new(source: S) -> Self
         ensures source { result.source ≡ source }
         ensures failed { result.failed ≡ None }
@@ -27,14 +27,14 @@ impl<S> Noting<S> {
         }
     }
 
-    /// Whether a read found the end.
+    /// Returns whether a read found the end.
     pub fn has_ended(&self) -> bool
         ensures { result ≡ self.now.ended }
     {
         self.ended
     }
 
-    /// Why the last read failed that did.
+    /// Returns why the last failed read failed.
     pub fn failed(&self) -> Option<ErrorKind>
         ensures { result ≡ self.now.failed }
     {
@@ -65,7 +65,7 @@ impl<S: Source> Source for Noting<S> {
     }
 }
 
-/// A kind of failures in words.
+/// Returns a kind of failure in words.
 pub fn reason(kind: ErrorKind) -> &'static str {
     match kind {
         ErrorKind::NotFound => "there is no such file",

@@ -1,4 +1,4 @@
-// `tctool sim`: plays a script of the simulated link.
+// `tctool sim`: runs a script of the simulated link.
 
 ghost use Rattle.std.specs.Prelude.{◌≡◌, OnOk, IfOk};
 ghost use Rattle.script.specs.Ending.{script_ending, script_text};
@@ -12,8 +12,8 @@ use std::alloc::Global;
 use stream_commands::Outcome;
 use streams::{Sink, Source, StreamFault};
 
-/// Reads a script to its end, and then plays it. Before the whole script is read nothing is written. Where a line
-/// is unreadable it leaves the cause.
+/// Reads a script to its end, and then runs it. Nothing is written before the whole script is read. If a line
+/// is unreadable, the call leaves the cause.
 pub fn simulate<R: Source, W: Sink>(
     alloc: Global,
     reader: &mut R,

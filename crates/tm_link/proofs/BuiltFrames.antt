@@ -48,7 +48,7 @@ idle_is n least most =
     let total : number_of (take 2 (drop 4 (take 6 (idle_packet n)))) + 7 ≡ length (idle_packet n) = omega arith in
     record { has_head = omega arith; extent_is = ap (done {F = PacketFault}) total }
 
--- it isn't handed out
+-- it is not delivered
 pub not_handed : (packets : List (List ℕ)) (n : ℕ) → packets ++ without_idle (idle_packet n ∷ []) ≡ packets
 not_handed packets n = append-nil packets
 
@@ -68,7 +68,7 @@ drop_tail size left le =
           drop-drop size (7 - left) (idle_packet 7) ∙ ap (λ (k : ℕ). drop k (idle_packet 7)) place
     ]
 
--- after the room for it
+-- what is left of it after the room for it
 pub drop_idle : (room : ℕ) → drop room (idle_packet (max room 7)) ≡ idle_tail (7 - room)
 drop_idle room =
     elim (cases_lt room 7) [
@@ -82,7 +82,7 @@ drop_idle room =
           ∙ ap idle_tail none
     ]
 
--- A frame that is built goes on with the stream where those before it ended.
+-- A frame that is built continues the stream where the frames before it ended.
 
 -- ---- what is held
 
@@ -141,7 +141,7 @@ idle_laid s ocf packets frames rest h =
 abbrev left_when : Bool → BuilderState → ℕ
 left_when rest s = (state_when rest s).idle_left + (state_when rest s).begun
 
--- a field that a stream fills which goes on at least so far
+-- a field that is filled from a stream at least as long as the field
 filled_laid : (s : BuilderState) (ocf : List ℕ) (packets : List (List ℕ)) (frames : List FrameView) (stream : List ℕ)
     (h : IsLaidOut packets frames stream) (all : List (List ℕ)) → h.all ≡ all
     → data_size s ≤ length stream → data_from s.idle_left s.pending (data_size s) ≡ take (data_size s) stream
@@ -170,7 +170,7 @@ filled_laid s ocf packets frames stream h all same long payload pointed next hel
     (next_again frames g) (cut_again all (place + size) (left_when false s)
     (length (carried_octets (frames ++ g ∷ []))) (left_when false s) (state_when false s).sizes behind refl cut)
 
--- ---- a field that what is held fills
+-- ---- a field that is filled from what is held
 
 held_full : (s : BuilderState) → s.idle_left ≤ 7 → data_size s ≤ s.idle_left + length s.pending
     → drop (data_size s) (held_by s) ≡ held_by (state_when false s)

@@ -1,4 +1,4 @@
--- Frames some of which come: an extractor hands out the packets that arrive with them.
+-- If some of the frames arrive, an extractor delivers the packets that arrive with them.
 use Rattle.std.proofs.Common.{◌≡◌, ◌<◌, ℕ, zero, suc, ◌+◌, ◌-◌, ◌%◌, Bool, true, false, eqb, List}
 use Rattle.std.proofs.Common.{[], ◌∷◌, ◌++◌, length, map, replicate, Option, Some, None, refl, sym}
 use Rattle.std.proofs.Common.{ap, subst, ◌∙◌, arith, append_assoc, length-append}
@@ -79,13 +79,13 @@ first_is (f ∷ frames) = refl
 
 -- ---- the frames that are left out
 
--- after one that came, and n that did not
+-- after a frame that arrived, and n frames that did not
 abbrev Spaced : ℕ → List Bool → Type 0
 Spaced n [] = Unit {0}
 Spaced n (true ∷ chosen) = (n < 256) × Spaced 0 chosen
 Spaced n (false ∷ chosen) = Spaced (suc n) chosen
 
--- where none came yet
+-- before any frame has arrived
 abbrev Begins : List Bool → Type 0
 Begins [] = Unit {0}
 Begins (true ∷ chosen) = Spaced 0 chosen
@@ -127,7 +127,7 @@ near_came (Some last) n chosen h = h.1
 
 -- ---- the extractor's part
 
--- after n frames that did not come, before one of this count: what the part is, and what is kept of the open packet
+-- after n frames that did not arrive, before one with this count: what the part is, and what is kept of the open packet
 abbrev Tied : Option ℕ → List ℕ → ℕ → ℕ → List ℕ → Type 0
 Tied None part n count keeps = (part ≡ []) × (keeps ≡ [])
 Tied (Some last) part n count keeps =
@@ -153,7 +153,7 @@ tied_part (Some last) part n count keeps chosen t near =
     let gap : (count + (255 - last)) % 256 ≡ n = omega (arith, t.0, t.1, near.0) in
     ap (λ k. part_over_gap (Lost k) part) gap ∙ part_by_gap n part keeps t.2 t.3
 
--- ---- where no more frames come, no more packets do
+-- ---- if no more frames arrive, no more packets do
 
 no_more : (all : Packets) (place : ℕ) (tail : List ℕ) (ps : Packets) (others : List ℕ) (marks : List Bool)
     → Stood all place tail ps others → length marks ≡ length tail
@@ -165,7 +165,7 @@ no_more all place tail (p ∷ ps) others marks s sized =
 
 -- ---- any choice
 
--- one frame, which came or did not
+-- one frame, which arrived or did not
 came_one : (came : Bool) (ps added left given : Packets) (marks flags more : List Bool) (n : ℕ)
     → complete_packets ps (marks ++ (replicate n came ++ more)) ≡ added ++ complete_packets left (flags ++ more)
     → given ≡ without_idle added
@@ -175,7 +175,7 @@ came_one came ps added left given marks flags more n e is =
     ap (λ (xs : Packets). xs ++ without_idle (complete_packets left (flags ++ more))) is
     ∙ sym (without_idle-append added (complete_packets left (flags ++ more))) ∙ ap without_idle (sym e)
 
--- the step of the next frame, and where the stream stands after it
+-- the step of the next frame, and the place in the stream after it
 next_frame : (came : Bool) (f : FrameView) (frames : List FrameView) (all : Packets) (place : ℕ) (tail : List ℕ)
     (ps : Packets) (others : List ℕ) (marks : List Bool) (count : ℕ)
     → Stood all place tail ps (carried_octets (f ∷ frames) ++ others) → length marks ≡ length tail
@@ -224,7 +224,7 @@ extracted (f ∷ frames) (true ∷ chosen) all place tail ps others marks s n co
     ∙ came_one true ps m.added m.left (extract_step s f).packets marks m.flags (marks_of frames chosen)
     (length (slice_of f)) (m.comes (marks_of frames chosen)) given
 
--- a new extractor hands out what arrives
+-- a new extractor delivers what arrives
 pub extraction_exact : (packets : Packets) (frames : List FrameView) (rest : List ℕ)
     (laid : IsLaidOut packets frames rest) (chosen : List Bool) → AllByRecursion IsInRange frames → IsClose chosen
     → all_extracted new_extractor (choice frames chosen) ≡ arrived_packets laid.all frames chosen
@@ -244,7 +244,7 @@ extraction_exact packets frames rest laid chosen each close =
     (follow_of laid.all frames [] frames (first_count frames) laid.pointers laid.counts refl each (first_is frames))
     (begins_from chosen close) (refl, refl)
 
--- Where all frames come, all packets are handed out.
+-- If all frames arrive, all packets are delivered.
 
 -- a frame that octets spell is in range
 pub spelled_in_range : (total : ℕ) (f : FrameView) (octets : List ℕ) → IsSpelling total f octets → IsInRange f

@@ -86,7 +86,7 @@ continued_part-short false tail x some is = refl
 
 -- ---- whole packets and the beginning of the next
 
--- what stands before a packet's end begins the packet
+-- octets that end before a packet's end are the beginning of the packet
 pub begins : (x others p rest : List ℕ) → x ++ others ≡ p ++ rest → length x < length p → p ≡ x ++ drop (length x) p
 begins x others p rest e short =
     let front : take (length x) p ≡ x =
@@ -133,7 +133,7 @@ opened_part-cut begun others (p ∷ ps) each opens e =
     opened_by begun (ending-short begun (drop (length begun) p) p each.0 (begins begun others p (concat ps) e opens)
     opens)
 
--- What a frame's pointer says of the place where its data begin.
+-- What a frame's pointer shows of the place where its data begin.
 
 -- no packet is open at a packet's end
 pub none_open : (all : Packets) (place : ℕ) (tail : List ℕ) (ps : Packets) (others : List ℕ)
@@ -152,12 +152,12 @@ pub none_ahead : (all : Packets) (place : ℕ) (tail octets others : List ℕ) �
 none_ahead all place tail octets others s =
     omega (arith, ap length s.ahead, length-append tail (octets ++ others), length-append octets others)
 
--- where none is open, the next starts here
+-- if none is open, the next packet starts here
 starts_here : (all : Packets) (place : ℕ) (tail : List ℕ) (p : List ℕ) (ps : Packets) (others : List ℕ)
     → Stood all place tail (p ∷ ps) others → length tail ≡ 0 → IsStart all (place + 0)
 starts_here all place tail p ps others s none = (s.passed, ps, p, s.parts, omega (arith, s.place_is))
 
--- and otherwise after the open one
+-- and otherwise it starts after the open packet
 starts_after : (all : Packets) (place : ℕ) (tail : List ℕ) (p r : List ℕ) (ps : Packets) (others : List ℕ) (k : ℕ)
     → Stood all place tail (p ∷ r ∷ ps) others → length tail + k ≡ length p
     → IsStart all (place + k)
@@ -167,7 +167,7 @@ starts_after all place tail p r ps others k s is =
     ∙ ap (λ (xs : List ℕ). length (concat s.passed) + length xs) (append-nil p) in
     (s.passed ++ p ∷ [], ps, r, s.parts ∙ sym (append_assoc s.passed (p ∷ []) (r ∷ ps)), omega (arith, s.place_is))
 
--- where no packet starts, one is open
+-- if no packet starts here, one is open
 pub some_open : (all : Packets) (place : ℕ) (tail : List ℕ) (p : List ℕ) (ps : Packets) (others : List ℕ) (n : ℕ)
     → Stood all place tail (p ∷ ps) others → 0 < n → HasNoStart all place n
     → 0 < length tail
@@ -177,7 +177,7 @@ some_open all place tail p ps others n s some h =
       | inr le ↦ absurd (h 0 some (starts_here all place tail p ps others s (omega arith)))
     ]
 
--- and goes on up to there
+-- and it continues up to there
 goes_on_by : (all : Packets) (place : ℕ) (tail octets others : List ℕ) (p : List ℕ) (ps : Packets) (n : ℕ)
     → Stood all place tail (p ∷ ps) (octets ++ others) → n ≤ length octets
     → HasNoStart all place n → length p < length tail + n → length tail + n ≤ length p
@@ -215,7 +215,7 @@ ends_there all place tail octets others p ps q s some lt start h =
       | inr le ↦ omega (arith, s.place_is, start.4)
     ]
 
--- and where none is open it is here
+-- and if none is open, the first start is here
 pub starts_first : (all : Packets) (place : ℕ) (tail octets others : List ℕ) (ps : Packets) (q : ℕ)
     → Stood all place tail ps (octets ++ others) → length tail ≡ 0 → q < length octets
     → HasNoStart all place q → q ≡ 0
@@ -227,13 +227,13 @@ starts_first all place tail octets others (p ∷ ps) q s none lt h =
       | inr le ↦ omega arith
     ]
 
--- What one frame hands out is what comes with it.
+-- What is delivered with one frame is what arrives with it.
 
--- what is kept of the octets of an open packet: all of them, or none where one has not come
+-- what is kept of the octets of an open packet: all of them, or none if one has not arrived
 abbrev pub kept : List ℕ → List Bool → List ℕ
 kept tail marks = cond (are_set marks) tail []
 
--- With a frame that came these packets are handed out, and this part is kept; without it, none.
+-- With a frame that arrived, these packets are delivered and this part is kept; with a frame that did not, none.
 abbrev pub Told : Bool → List ℕ → Pointer → List ℕ → Packets → List ℕ → Type 0
 Told true part pointer payload added after =
     (finished_packets part pointer payload ≡ added) × (part_after part pointer payload ≡ after)

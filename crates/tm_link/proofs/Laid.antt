@@ -21,7 +21,7 @@ use Rattle.tm_link.proofs.Passed.{cut_more}
 use Rattle.tm_link.proofs.Passed.{last_or_before, pointed_more, carried_octets-append, length-carried}
 use Rattle.tm_link.proofs.Records.{without_idle-append}
 
--- What is queued is one packet, which isn't idle.
+-- What is queued is one packet, which is not idle.
 
 apid_is : (p : PacketView) (octets : List ℕ) → IsPacket p octets → number_of (take 2 octets) % 2048 ≡ p.apid
 apid_is p octets h =
@@ -44,7 +44,7 @@ not_idle p octets h = ap is_idle_apid (apid_is p octets h.packet) ∙ h.not_idle
 pub to_send_again : (p : PacketView) (octets : List ℕ) → IsToSend p octets → is_to_send octets ≡ true
 to_send_again p octets h = rw (is_packet-again octets (p, h.packet), not_idle p octets h) refl
 
--- Packets after the stream, and frames that go on with it.
+-- Packets after the stream, and frames that continue it.
 
 -- ---- a new builder
 
@@ -96,7 +96,7 @@ pointers_more packets frames rest h more before after f e =
     pointed_more h.all more (length (carried_octets before)) f.pointer f.payload (omega arith)
     (h.pointers before after f e)
 
--- one more packet, of which the builder holds all octets
+-- one more packet, whose octets the builder holds
 pub packet_after : (packets more : List (List ℕ)) (frames : List FrameView) (rest p : List ℕ)
     (h : IsLaidOut packets frames rest) → IsRecord 6 extent_at p → packets ++ without_idle (p ∷ []) ≡ more
     → (l : IsLaidOut more frames (rest ++ p)) × (l.all ≡ h.all ++ p ∷ [])
@@ -128,7 +128,7 @@ pointers_next packets frames rest g h here before after f e =
           (length g.payload)) (sym w.0) here)
     ]
 
--- the next frame has the count that is next
+-- the next frame has the next count
 abbrev pub IsNext : List FrameView → ℕ → Type 0
 IsNext frames count =
     (before : List FrameView) (f : FrameView) → frames ≡ before ++ f ∷ [] → count ≡ (f.vc_count + 1) % 256
@@ -169,7 +169,7 @@ frame_after packets frames rest left g h parts here next = (
   refl,
 )
 
--- what the frames lay out, as what a builder does
+-- what the frames lay out, expressed by what a builder does
 pub laid_again : (s : BuilderState) (packets : List (List ℕ)) (frames : List FrameView) (rest : List ℕ)
     (all : List (List ℕ)) (l : IsLaidOut packets frames rest) → l.all ≡ all → rest ≡ held_by s
     → IsNext frames s.vc_count
@@ -198,7 +198,7 @@ laid_again s packets frames rest all l e held next cut = record {
 to_send_record : (p : PacketView) (octets : List ℕ) → IsToSend p octets → IsRecord 6 extent_at octets
 to_send_record p octets h = let own = own_extent_of p octets h.packet in record { has_head = own.0; extent_is = own.1 }
 
--- a packet that is queued is handed out
+-- a packet that is queued is delivered
 to_send_handed : (p : PacketView) (octets : List ℕ) → IsToSend p octets → without_idle (octets ∷ []) ≡ octets ∷ []
 to_send_handed p octets h = rw (not_idle p octets h) refl
 

@@ -1,4 +1,4 @@
--- An extractor that holds a part of a packet hands out at most one packet more than one that holds none.
+-- An extractor that holds a part of a packet delivers at most one packet more than an extractor that holds none.
 use Rattle.std.proofs.Common.{◌≤◌, ℕ, Bool, true, false, List, [], ◌∷◌, ◌++◌, length, take, drop, Option, Some}
 use Rattle.std.proofs.Common.{None, refl, ap, ◌∙◌, arith, append_assoc}
 use Rattle.std.specs.Prelude.{if◌then◌else◌, ◌==◌, not}
@@ -22,7 +22,7 @@ use Rattle.tm_link.proofs.PlaceInStream.{Packets}
 the_same : (given : Packets) → AreButForTheFirst given given
 the_same given = record { first = []; most = omega arith; parts = refl }
 
--- what is finished with octets is at most one packet
+-- octets complete at most one packet
 one_kept : (b : Bool) (octets : List ℕ) → length (if b then octets ∷ [] else []) ≤ 1
 one_kept true octets = omega arith
 one_kept false octets = omega arith
@@ -38,11 +38,11 @@ one_completed true octets = omega arith
 one_completed false octets = one_finished octets (ending_of octets)
 
 module _ (count : ℕ) (frames : List FrameView) where
-  -- what the frames after one of this count give
+  -- what is delivered from the frames after a frame with this count
   abbrev from : List ℕ → Packets
   from part = all_extracted (record { last = Some count; part = part }) frames
 
-  -- what that one gives, and what they do
+  -- what is delivered from that frame, and from the frames after it
   abbrev handed : List ℕ → Pointer → List ℕ → Packets
   handed part pointer payload =
       without_idle (finished_packets part pointer payload) ++ from (part_after part pointer payload)

@@ -1,4 +1,4 @@
--- Places in the stream of packets: where packets start, also once there are more packets.
+-- Places in the stream of packets: where packets start, also after more packets are added.
 use Rattle.std.proofs.Common.{◌≡◌, ◌≤◌, ◌<◌, ◌⊎◌, ℕ, ◌+◌, List, [], ◌∷◌, ◌++◌, length, refl, sym}
 use Rattle.std.proofs.Common.{ap, ◌∙◌, arith, inl, inr, length-append, append_assoc, ◌-◌, ltb, map}
 use Rattle.std.proofs.Common.{subst}
@@ -134,7 +134,7 @@ length-carried before after f =
     ∙ length-append (carried_octets before) (carried_octets (f ∷ after))
     ∙ ap (λ (n : ℕ). length (carried_octets before) + n) (length-append (slice_of f) (carried_octets after))
 
--- Where packets start in what is held, and once some of it is passed.
+-- Where packets start in what is held, and after some of it is passed.
 
 -- one more packet
 pub length-more : (packets : List (List ℕ)) (p : List ℕ)
@@ -170,7 +170,7 @@ start_at : (all before whole : List (List ℕ)) (place : ℕ) → all ≡ before
 start_at all before [] place e at some = absurd (omega arith)
 start_at all before (p ∷ ps) place e at some = (before, ps, p, e, at)
 
--- so the pointer is the least place where a packet starts
+-- so the pointer is the first place where a packet starts
 pub pointed_first : (all : List (List ℕ)) (place left size : ℕ) (sizes : List ℕ) (h : IsCutAt all place left sizes)
     → (left < size → 0 < length (concat h.whole)) → IsPointed all place (first_start left size) size
 pointed_first all place left size sizes h some =
@@ -241,7 +241,7 @@ pass_all (p ∷ ps) room begun lt =
     passed_beyond room begun (length p) (map length ps) (omega arith)
     ∙ pass_all ps (room - begun) (length p) (omega arith)
 
--- after that many of the octets held
+-- after this many of the octets held
 pub cut_after : (all : List (List ℕ)) (place idle begun size : ℕ) (sizes : List ℕ)
     (h : IsCutAt all place (idle + begun) sizes) → size ≤ idle + begun + length (concat h.whole)
     → IsCutAt all (place + size) (idle - size + (left_after (size - idle) begun sizes).0)
@@ -274,7 +274,7 @@ cut_after all place idle begun size sizes h le =
           })
     ]
 
--- after all of them, where a packet stands that ends this many octets later
+-- after all of them, if a packet that ends this many octets later is at this place
 pub cut_last : (packets : List (List ℕ)) (p : List ℕ) (place left : ℕ)
     → place + left ≡ length (concat packets) + length p → length (concat packets) < place
     → IsCutAt (packets ++ p ∷ []) place left []

@@ -1,4 +1,4 @@
--- Which packets have come, by the marks of their octets.
+-- Which packets have arrived, by the marks of their octets.
 use Rattle.std.proofs.Common.{◌≡◌, ◌<◌, ℕ, zero, suc, Bool, true, false, cond, eqb, List, [], ◌∷◌}
 use Rattle.std.proofs.Common.{◌++◌, length, take, drop, replicate, refl, sym, ap, ◌∙◌, arith}
 use Rattle.std.proofs.Common.{append_assoc, length-append, ◌≤◌, ◌⊎◌, ◌+◌, subst, inl, inr}
@@ -71,7 +71,7 @@ complete_packets-alike c (w ∷ ws) ps more each =
     ∙ ap (λ (xs : List (List ℕ)). cond c (w ∷ []) [] ++ xs) (complete_packets-alike c ws ps more each.1)
     ∙ come_alike c w ws (complete_packets ps more)
 
--- no packet has come of which an octet is missing
+-- a packet with a missing octet has not arrived
 too_few : (n : ℕ) (marks : List Bool) → length marks < n → are_received n marks ≡ false
 too_few n marks h =
     let t : take n marks ≡ marks = take_all n marks (omega arith) in
@@ -95,7 +95,7 @@ complete_packets-short p ps marks each h =
     let d : drop (length p) marks ≡ no_marks = drop_all (length p) marks (omega arith) in
     rw (t, d) (none_come ps each)
 
--- A place in a stream of packets, and what the octets after it move on.
+-- A place in a stream of packets, and how the octets after it move it on.
 
 abbrev pub Packets : Type 0
 Packets = List (List ℕ)
@@ -120,7 +120,7 @@ pub none_opens : (ps : Packets) → AreRecords ps → Opens [] ps
 none_opens [] each = refl
 none_opens (p ∷ ps) each = omega (arith, each.0.has_head)
 
--- At this place there are these octets of the packet that comes first, and then these others.
+-- At this place there are these octets of the packet that arrives first, followed by these others.
 pub record Stood (all : Packets) (place : ℕ) (tail : List ℕ) (ps : Packets) (others : List ℕ) : Type 0 where
   pub passed : Packets
   pub parts : all ≡ passed ++ ps
@@ -131,7 +131,7 @@ pub record Stood (all : Packets) (place : ℕ) (tail : List ℕ) (ps : Packets) 
 
 -- Some octets, marked alike, after a place.
 pub record Moved (c : Bool) (ps : Packets) (tail : List ℕ) (marks : List Bool) (octets : List ℕ) : Type 0 where
-  -- the packets that have come with them
+  -- the packets that have arrived with them
   pub added : Packets
   -- the packets that are passed, and those ahead
   pub through : Packets

@@ -13,7 +13,7 @@ use Rattle.space_packet.specs.Decoding.{extent_at}
 use Rattle.space_packet.proofs.WholePackets.{one_more-by_len}
 use Rattle.tm_link.specs.Extractor.{is_idle, without_idle}
 
--- ---- whole packets that stand first
+-- ---- whole packets at the beginning
 
 -- all octets after the first
 after_is : (octets : List ℕ) (n : ℕ) → take (length octets - n) (drop n octets) ≡ drop n octets
@@ -36,12 +36,12 @@ pub extent_most : (head : List ℕ) (n : ℕ) → IsOctets head → extent_at he
 extent_most head n octets h =
     let has = extent_is head n h in omega (arith, two_below (drop 4 head) (drop_fits head 4 octets))
 
--- ---- packets handed out
+-- ---- packets delivered
 
 pub without_idle-append : (xs ys : List (List ℕ)) → without_idle (xs ++ ys) ≡ without_idle xs ++ without_idle ys
 without_idle-append xs ys = filter-append (λ (packet : List ℕ). not (is_idle packet)) xs ys
 
--- a packet, and then more, after those that were handed out
+-- a packet, and then more, after those that were delivered
 pub handed_on : (before now : List (List ℕ)) (packet : List ℕ) (more : List (List ℕ))
     → now ≡ before ++ without_idle (packet ∷ []) → now ++ without_idle more ≡ before ++ without_idle (packet ∷ more)
 handed_on before now packet more h =
@@ -49,7 +49,7 @@ handed_on before now packet more h =
     ∙ append_assoc before (without_idle (packet ∷ [])) (without_idle more)
     ∙ ap (λ (xs : List (List ℕ)). before ++ xs) (sym (without_idle-append (packet ∷ []) more))
 
--- ---- no packet handed out
+-- ---- no packet delivered
 
 none_parts : (xs ys : List (List ℕ)) → xs ++ ys ≡ [] → (xs ≡ []) × (ys ≡ [])
 none_parts [] ys h = (refl, h)

@@ -1,4 +1,4 @@
--- Frames: what is read is spelled so, and what is spelled so is read.
+-- Frames: what is read has that spelling, and what has that spelling is read.
 use Rattle.std.proofs.Common.{◌≡◌, ◌<◌, ◌≤◌, ℕ, ◌+◌, ◌-◌, ◌/◌, ◌%◌, true, false, not, cond, eqb}
 use Rattle.std.proofs.Common.{ltb, leb, List, [], ◌∷◌, ◌++◌, length, get_or, take, drop, Result, Ok}
 use Rattle.std.proofs.Common.{Err, refl, sym, ap, subst, ◌∙◌, arith, length-append, zero, suc, min}
@@ -69,7 +69,7 @@ rest_is total b count least =
 
 -- ---- the pointer
 
--- a number of 11 bits that isn't outside is that of its pointer, which is in the data
+-- a number of 11 bits that is not outside is that of its pointer, which lies in the data
 below_from : (number size : ℕ) → number < 2048 → is_pointer_outside number size ≡ false → eqb number 2046 ≡ false
     → eqb number 2047 ≡ false → number < size
 below_from number size low inside idle none = grind (arith, nat_tests)
@@ -103,7 +103,7 @@ pointer_again (At place) size most fits =
 pointer_again NoStart size most fits = record { again = refl; inside = refl; low = omega arith }
 pointer_again OnlyIdle size most fits = record { again = refl; inside = refl; low = omega arith }
 
--- a number that isn't even
+-- a number that is not even
 odd_from : (n : ℕ) → (n % 2 ≡ 0 → ⊥) → n % 2 ≡ 1
 odd_from n h = omega arith
 
@@ -246,7 +246,7 @@ spelling_is f ocf fits =
       checked = holds_check front;
     }
 
--- what was written in front of other octets
+-- what was written before other octets
 pub written_is : (n : ℕ) (f : FrameView) (out rest : List ℕ) → out ≡ spelling f → IsTmFrame n f (spelling f)
     → IsTmFrame n f (take n (out ++ rest))
 written_is n f out rest is h =

@@ -1,4 +1,4 @@
--- How a builder's fields stand for its state: the octets before `start` were sent.
+-- How a builder's fields represent its state. The octets before `start` were sent.
 use Rattle.std.specs.Prelude.{◌≤◌, ◌<◌, drop, vec_len}
 use Rattle.tm_link.specs.declared.builder.TmBuilder.TheInside.{Inside}
 use Rattle.tm_link.specs.Builder.{BuilderState}
@@ -22,7 +22,7 @@ state_of b = record {
   sizes = b.sizes.items;
 }
 
--- what the fields keep to
+-- what holds of the fields
 pub record IsSound (b : Inside) : Type 0 where
   pub scid : b.scid < 1024
   pub vcid : b.vcid < 8

@@ -10,11 +10,11 @@ use Rattle.tm_link.specs.declared.fault.TmFault.{TmFault}
 use Rattle.tm_link.specs.declared.fault.TmFault.TheVariants as faults
 use Rattle.tm_link.specs.Layout.{FrameView}
 
--- this many octets are no frame of this length, or no frame has this length
+-- a frame of this length does not have this many octets, or no frame has this length
 abbrev pub is_length_wrong : ℕ → ℕ → Bool
 is_length_wrong total count = not (count == total) || nat_lt total 16 || nat_lt 2048 total
 
--- the last two octets aren't the check of those before them (CCSDS 132.0-B-3, 4.1.6)
+-- the last two octets are not the check of those before them (CCSDS 132.0-B-3, 4.1.6)
 abbrev pub is_check_wrong : List ℕ → Bool
 is_check_wrong b = not (number_of (drop (length b - 2) b) == check_of (take (length b - 2) b))
 
@@ -27,7 +27,7 @@ abbrev pub pointer_at : ℕ → Pointer
 pointer_at number =
     if number == 2046 then OnlyIdle else if number == 2047 then NoStart else At number
 
--- four octets from a place on
+-- the four octets from a place on
 abbrev pub four_at : List ℕ → ℕ → List ℕ
 four_at b k =
     slice_index b k ∷ slice_index b (k + 1) ∷ slice_index b (k + 2) ∷ slice_index b (k + 3) ∷ []

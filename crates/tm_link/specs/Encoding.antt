@@ -8,7 +8,7 @@ use Rattle.tm_link.specs.declared.fault.TmFault.{TmFault}
 use Rattle.tm_link.specs.declared.fault.TmFault.TheVariants as faults
 use Rattle.tm_link.specs.Layout.{FrameView, pointer_number, pointer_fits}
 
--- all octets of the frame
+-- the number of octets of the frame
 abbrev pub total_of : FrameView → ℕ
 total_of f = length f.payload + 12
 
@@ -30,14 +30,14 @@ front_octets f = header_octets f ++ (f.payload ++ f.ocf)
 abbrev pub spelling : FrameView → List ℕ
 spelling f = front_octets f ++ big_bytes 2 (check_of (front_octets f))
 
--- each field is in its range, and there are 16 to 2,048 octets
+-- each field is in range, and the frame has 16 to 2,048 octets
 abbrev pub frame_fits : FrameView → Bool
 frame_fits f =
     nat_lt f.scid 1024 && nat_lt f.vcid 8 && nat_le 4 (length f.payload)
     && nat_le (length f.payload) 2036
     && pointer_fits f.pointer (length f.payload)
 
--- how many octets are written where there is room for this many, or why none are
+-- how many octets are written if there is room for this many, or why none are
 abbrev pub encode_answer : FrameView → ℕ → Result ℕ TmFault
 encode_answer f room =
     count_written (frame_fits f) (total_of f) room faults.FieldRange faults.Room

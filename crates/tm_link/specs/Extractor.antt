@@ -17,12 +17,12 @@ use Rattle.tm_link.specs.declared.ending.Ending.{Ending}
 use Rattle.tm_link.specs.declared.ending.Ending.TheVariants.{Whole, Short, Wrong}
 use Rattle.tm_link.specs.Layout.{FrameView}
 
--- What an extractor holds. One that is searching and one in step with no octets are told apart by
--- no frame, so both are the state with no part.
+-- What an extractor holds. No frame distinguishes an extractor that is searching from one that is
+-- in step without octets, so the state of both is the one with no part.
 pub record ExtractorState : Type 0 where
-  -- the last frame's count on the virtual channel, once there was a frame
+  -- the last frame's count on the virtual channel, if there was a frame
   pub last : Option ℕ
-  -- the first octets of a packet whose end is to come
+  -- the first octets of a packet that has not ended yet
   pub part : List ℕ
 
 abbrev pub new_extractor : ExtractorState
@@ -30,7 +30,7 @@ new_extractor = record { last = None; part = [] }
 
 -- ---- the gap
 
--- how many frames are missing before one of this count, modulo 256
+-- how many frames are missing before a frame with this count, modulo 256
 abbrev pub gap_of : Option ℕ → ℕ → Gap
 gap_of None count = First
 gap_of (Some last) count = Lost ((count + (255 - last)) % 256)
@@ -39,13 +39,13 @@ abbrev pub is_any_lost : Gap → Bool
 is_any_lost First = false
 is_any_lost (Lost n) = not (n == 0)
 
--- the part, which is dropped where a frame is missing
+-- the part, which is dropped if a frame is missing
 abbrev pub part_over_gap : Gap → List ℕ → List ℕ
 part_over_gap gap part = if is_any_lost gap then [] else part
 
 -- ---- a packet's end
 
--- how this many octets from a packet's start on stand to this extent
+-- how this many octets from a packet's start on compare with its extent
 abbrev pub ending_by : Result ℕ PacketFault → ℕ → Ending
 ending_by (Ok n) count = if n == count then Whole else if nat_lt count n then Short else Wrong
 ending_by (Err e) count = Wrong
@@ -55,13 +55,13 @@ ending_of octets =
     if nat_lt (length octets) 6 then Short else ending_by (extent_at (take 6 octets))
     (length octets)
 
--- the packet that is finished with these octets
+-- the packet that these octets complete, if any
 abbrev pub finished_by : List ℕ → Ending → List (List ℕ)
 finished_by octets Whole = octets ∷ []
 finished_by octets Short = []
 finished_by octets Wrong = []
 
--- the part that these octets leave
+-- the part that is left of these octets
 abbrev pub part_by : List ℕ → Ending → List ℕ
 part_by octets Whole = []
 part_by octets Short = octets
@@ -69,7 +69,7 @@ part_by octets Wrong = []
 
 -- ---- a frame's data, in step with a part or with none
 
--- the packet that the part and these octets after it are
+-- the packet that the part and these octets after it form, if any
 abbrev pub completed_packet : List ℕ → List ℕ → List (List ℕ)
 completed_packet part octets =
     if length part == 0 then [] else finished_by (part ++ octets) (ending_of (part ++ octets))
@@ -78,7 +78,7 @@ abbrev pub continued_part : List ℕ → List ℕ → List ℕ
 continued_part part octets =
     if length part == 0 then [] else part_by (part ++ octets) (ending_of (part ++ octets))
 
--- what stands after whole packets, unless it is refused
+-- what follows the whole packets, unless it is refused
 abbrev pub opened_part : List ℕ → List ℕ
 opened_part rest = part_by rest (ending_of rest)
 
@@ -99,7 +99,7 @@ part_after part (At p) payload = opened_part (rest_of 6 extent_at (drop p payloa
 abbrev pub is_idle : List ℕ → Bool
 is_idle packet = is_idle_apid (number_of (take 2 packet) % 2048)
 
--- all packets but idle ones
+-- all packets except idle ones
 abbrev pub without_idle : List (List ℕ) → List (List ℕ)
 without_idle packets = filter (λ packet. not (is_idle packet)) packets
 
@@ -122,6 +122,6 @@ extract_step s f =
 abbrev pub octets_of : List (Vec ℕ Global) → List (List ℕ)
 octets_of packets = map (λ packet. packet.items) packets
 
--- these packets are after those that were there
+-- these packets were appended to those that were there
 abbrev pub GrowsBy : Vec (Vec ℕ Global) Global → Vec (Vec ℕ Global) Global → List (List ℕ) → Type 0
 GrowsBy before after packets = octets_of after.items ≡ octets_of before.items ++ packets

@@ -1,4 +1,4 @@
--- The refusals of telemetry frames: a row each.
+-- The faults of telemetry frames, one row for each.
 use Rattle.std.specs.Prelude.{ℕ, List, codes}
 use Rattle.tm_link.specs.declared.fault.TmFault.{TmFault}
 use Rattle.tm_link.specs.declared.fault.TmFault.TheVariants.{Length, Version, Check, Status}

@@ -7,7 +7,7 @@ use Rattle.tm_link.specs.declared.frame.Pointer.{Pointer}
 use Rattle.tm_link.specs.declared.frame.Pointer.TheVariants.{At, NoStart, OnlyIdle}
 use Rattle.tm_link.specs.declared.frame.TmFrame.{TmFrame}
 
--- a frame without where its data lie in memory
+-- a frame, without the place of its data in memory
 pub record FrameView : Type 0 where
   pub scid : ℕ
   pub vcid : ℕ
@@ -39,7 +39,7 @@ pointer_number (At place) = place
 pointer_number NoStart = 2047
 pointer_number OnlyIdle = 2046
 
--- a place is one of the data field of this many octets
+-- the pointer's place, if it has one, lies in a data field of this many octets
 abbrev pub pointer_fits : Pointer → ℕ → Bool
 pointer_fits (At place) size = nat_lt place size
 pointer_fits NoStart size = true

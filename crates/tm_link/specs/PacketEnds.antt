@@ -1,4 +1,4 @@
--- What stands in a frame's data after the whole packets that start in it.
+-- What follows the whole packets that start in a frame's data.
 use Rattle.std.specs.Prelude.{ℕ, List, [], drop}
 use Rattle.octets.specs.Records.{rest_of}
 use Rattle.space_packet.specs.Decoding.{extent_at}

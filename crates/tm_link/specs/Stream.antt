@@ -25,7 +25,7 @@ IsEnd all place =
 
 -- ---- the frames
 
--- what a frame carries of the stream
+-- the part of the stream that a frame carries
 abbrev pub carried_by : Pointer → List ℕ → List ℕ
 carried_by OnlyIdle payload = []
 carried_by NoStart payload = payload
@@ -41,17 +41,17 @@ carried_octets frames = concat (map slice_of frames)
 abbrev pub HasNoStart : List (List ℕ) → ℕ → ℕ → Type 0
 HasNoStart all place n = (q : ℕ) → q < n → IsStart all (place + q) → ⊥
 
--- the pointer of a frame whose slice begins at this place is the least place in it where a packet
--- starts
+-- the pointer of a frame whose slice begins at this place is the first place in the slice where a
+-- packet starts
 abbrev pub IsPointed : List (List ℕ) → ℕ → Pointer → ℕ → Type 0
 IsPointed all place OnlyIdle size = IsEnd all place
 IsPointed all place NoStart size = HasNoStart all place size
 IsPointed all place (At p) size = (p < size) × IsStart all (place + p) × HasNoStart all place p
 
--- The frames lay out the stream of the packets, up to the rest.
+-- The frames lay out the stream of the packets, except for the rest.
 pub record IsLaidOut (packets : List (List ℕ)) (frames : List FrameView) (rest : List ℕ) : Type 0
   where
-    -- the packets of the stream, with idle ones before, between and after
+    -- the packets of the stream, with idle packets before, between and after them
     pub all : List (List ℕ)
     pub each : AllByRecursion (IsRecord 6 extent_at) all
     pub sent : without_idle all ≡ packets
@@ -64,34 +64,34 @@ pub record IsLaidOut (packets : List (List ℕ)) (frames : List FrameView) (rest
 
 -- ---- the packets that arrive
 
--- for each octet of the stream whether it came, where some of the frames came
+-- for each octet of the stream, whether it arrived, if some of the frames arrived
 abbrev pub marks_of : List FrameView → List Bool → List Bool
 marks_of [] chosen = []
 marks_of (f ∷ frames) [] = []
 marks_of (f ∷ frames) (c ∷ chosen) = replicate (length (slice_of f)) c ++ marks_of frames chosen
 
--- all of the next n octets came
+-- all of the next n octets arrived
 abbrev pub are_received : ℕ → List Bool → Bool
 are_received n marks = (length (take n marks) == n) && list_all (λ m. m) (take n marks)
 
--- the packets all of whose octets came, idle ones among them
+-- the packets whose octets all arrived, idle ones among them
 abbrev pub complete_packets : List (List ℕ) → List Bool → List (List ℕ)
 complete_packets [] marks = []
 complete_packets (p ∷ ps) marks =
     if are_received (length p) marks then p
     ∷ complete_packets ps (drop (length p) marks) else complete_packets ps (drop (length p) marks)
 
--- in order, the packets all of whose octets lie in the slices of the frames that came
+-- the packets whose octets all lie in the slices of the frames that arrived, in order
 abbrev pub arrived_packets : List (List ℕ) → List FrameView → List Bool → List (List ℕ)
 arrived_packets all frames chosen = without_idle (complete_packets all (marks_of frames chosen))
 
--- the frames that came
+-- the frames that arrived
 abbrev pub choice : List FrameView → List Bool → List FrameView
 choice [] chosen = []
 choice (f ∷ frames) [] = []
 choice (f ∷ frames) (c ∷ chosen) = if c then f ∷ choice frames chosen else choice frames chosen
 
--- fewer than 256 frames are left out between two that came
+-- fewer than 256 frames are left out between two that arrived
 abbrev pub IsClose : List Bool → Type 0
 IsClose chosen =
     (before after : List Bool) (n : ℕ)

@@ -1,4 +1,4 @@
-// Building frames of a stream of packets.
+// Building frames from a stream of packets.
 
 ghost use Rattle.std.specs.Prelude.{◌≡◌, ◌≤◌, ◌<◌, ◌^◌, ◌++◌, ◌↔◌, ℕ, List, [], ◌∷◌, length, take, drop, IsTrue, IsOk, IfOk, IfErr, OnOk, OnErr};
 ghost use Rattle.tm_link.specs.Builder.{new_builder, builder_with_counts, builder_fits, after_queue, queue_fault, is_to_send, is_at_rest, first_start, idle_after, after_send, after_fill, with_next_count, build_step, state_with};
@@ -17,10 +17,10 @@ use std::alloc::Global;
 use std::collections::VecDeque;
 use std::marker::Model;
 
-/// Builds the frames of one virtual channel, all of one length (CCSDS 132.0-B-3, 4.2). The packets
-/// that are queued follow one another in the frames' data fields. Where they run out within a frame
-/// an idle packet is placed, which may go on in the next; where nothing is to be sent a frame has
-/// only idle data. Nothing but `queue` takes memory.
+/// Builds the frames of one virtual channel, all of one length (CCSDS 132.0-B-3, 4.2). The queued
+/// packets follow one another in the frames' data fields. If they run out within a frame, an idle
+/// packet is placed, which may continue in the next frame. If nothing is to be sent, a frame
+/// contains only idle data. Only `queue` takes memory.
 #[derive(Drop)]
 pub struct TmBuilder {
     scid: u16,
@@ -29,7 +29,7 @@ pub struct TmBuilder {
     mc_count: u8,
     vc_count: u8,
     idle_left: usize,
-    // octets of packets, of which those before `start` were sent
+    // octets of packets; those before `start` were sent
     octets: Vec<u8>,
     start: usize,
     begun: u32,
@@ -49,8 +49,9 @@ impl Model for TmBuilder {
 }
 
 impl TmBuilder {
-    /// A builder of frames of `length` octets, 16 to 2,048, whose counts start at 0. Refuses a
-    /// spacecraft identifier of 1,024 or more, a virtual channel of 8 or more, and another length.
+    /// Creates a builder of frames of `length` octets, 16 to 2,048, whose counts start at 0.
+    /// Refuses a spacecraft identifier of 1,024 or more, a virtual channel of 8 or more, and any
+    /// other length.
     /// Faults: 10 FieldRange.
     pub fn new(alloc: Global, scid: u16, vcid: u8, length: usize) -> Result<Self, TmFault>
         ensures ok { IfOk result (λ b. b ≡ new_builder scid vcid length) }
@@ -63,8 +64,9 @@ impl TmBuilder {
         TmBuilder::with_counts(alloc, scid, vcid, length, 0, 0)
     }
 
-    /// A builder as `new` makes it, whose next frame has these counts on the master and on the virtual
-    /// channel (CCSDS 132.0-B-3, 4.1.2.5 and 4.1.2.6): one that goes on with counts that were kept.
+    /// Creates a builder as `new` does, whose next frame has these counts on the master channel and
+    /// on the virtual channel (CCSDS 132.0-B-3, 4.1.2.5 and 4.1.2.6). So it continues with counts
+    /// that were kept.
     /// Faults: 10 FieldRange.
     pub fn with_counts(
         alloc: Global,
@@ -99,9 +101,9 @@ impl TmBuilder {
         })
     }
 
-    /// Queues the packet after those that are to be sent (CCSDS 132.0-B-3, 4.2.2). Refuses by 8
-    /// `NotAPacket` octets that are not exactly one packet, or an idle packet, and then by 7
-    /// `Memory`; the builder is as it was then.
+    /// Queues the packet after those that are still to be sent (CCSDS 132.0-B-3, 4.2.2). Refuses
+    /// with 8 `NotAPacket` octets that are not exactly one packet, or an idle packet, and then with
+    /// 7 `Memory` if memory runs out. The builder is then as it was.
     /// Faults: 8 NotAPacket, then 7 Memory. Memory: yes. Cost: n*.
     pub fn queue(&mut self, packet: &[u8]) -> Result<(), TmFault>
         ensures ok { OnOk result (self.new ≡ after_queue self.old packet.now) }
@@ -109,7 +111,7 @@ impl TmBuilder {
         ensures err { OnErr result (self.new ≡ self.old) }
         ensures fault { IfErr result (λ e. e ≡ queue_fault packet.now) }
 
-        // The packet is the last of the stream, whose end is held.
+        // The packet becomes the last of the stream, and the builder holds the stream's end.
         ensures laid { OnOk result ((packets : List (List ℕ)) (frames : List FrameView)
             → IsLaidOutBy self.old packets frames
             → IsLaidOutBy self.new (packets ++ packet.now ∷ []) frames) }
@@ -128,9 +130,9 @@ impl TmBuilder {
         Ok(())
     }
 
-    /// Writes the next frame, with this operational control field, at the beginning of `out`, and
-    /// says how many octets it has: as many as all frames (CCSDS 132.0-B-3, 4.1). Octets past it
-    /// stay.
+    /// Writes the next frame, with this operational control field, at the beginning of `out` (CCSDS
+    /// 132.0-B-3, 4.1). Returns how many octets it has, as many as every frame. The octets after it
+    /// do not change.
     /// Cost: n and the number of packets that end in the frame.
     pub fn build(&mut self, ocf: [u8; 4], out: &mut [u8; 2048]) -> usize
         ensures count { result ≡ self.old.total }
@@ -140,7 +142,7 @@ impl TmBuilder {
         // So `decode` reads this frame.
         ensures spells { IsTmFrame result (build_step self.old ocf).0 (take result out.new) }
 
-        // The frame goes on with the stream where those before it ended.
+        // The frame continues the stream where the frames before it ended.
         ensures laid { (packets : List (List ℕ)) (frames : List FrameView)
             → IsLaidOutBy self.old packets frames
             → IsLaidOutBy self.new packets (frames ++ (build_step self.old ocf).0 ∷ []) }
@@ -150,7 +152,8 @@ impl TmBuilder {
         self.build_in(ocf, out)
     }
 
-    /// The same, where `out` has as many octets at least as all frames.
+    /// Writes the next frame as `build` does, into an `out` that has at least as many octets as a
+    /// frame.
     /// Cost: n and the number of packets that end in the frame.
     pub fn build_in(&mut self, ocf: [u8; 4], out: &mut [u8]) -> usize
         requires room { self.old.total ≤ length out.old }
@@ -161,7 +164,7 @@ impl TmBuilder {
         // So `decode` reads this frame.
         ensures spells { IsTmFrame result (build_step self.old ocf).0 (take result out.new) }
 
-        // The frame goes on with the stream where those before it ended.
+        // The frame continues the stream where the frames before it ended.
         ensures laid { (packets : List (List ℕ)) (frames : List FrameView)
             → IsLaidOutBy self.old packets frames
             → IsLaidOutBy self.new packets (frames ++ (build_step self.old ocf).0 ∷ []) }
@@ -176,21 +179,21 @@ impl TmBuilder {
         self.total
     }
 
-    // How many octets each frame has.
+    // Returns how many octets each frame has.
     fn total(&self) -> usize
         ensures { (result ≡ self.now.total) × (result ≤ 2048) }
     {
         self.total
     }
 
-    /// The next frame's count on the master channel (CCSDS 132.0-B-3, 4.1.2.5).
+    /// Returns the next frame's count on the master channel (CCSDS 132.0-B-3, 4.1.2.5).
     pub fn mc_count(&self) -> u8
         ensures { result ≡ self.now.mc_count }
     {
         self.mc_count
     }
 
-    /// The next frame's count on the virtual channel (CCSDS 132.0-B-3, 4.1.2.6).
+    /// Returns the next frame's count on the virtual channel (CCSDS 132.0-B-3, 4.1.2.6).
     pub fn vc_count(&self) -> u8
         ensures { result ≡ self.now.vc_count }
     {
@@ -212,7 +215,7 @@ impl TmBuilder {
         }
     }
 
-    // Passes a frame.
+    // Moves past a frame.
     fn pass(&mut self)
         ensures { self.new ≡ with_next_count (after_fill self.old) }
     {
@@ -229,7 +232,7 @@ impl TmBuilder {
         self.idle_left == 0 && self.octets.len() - self.start == 0
     }
 
-    // Passes a data field of this many octets.
+    // Moves past a data field of this many octets.
     fn send(&mut self, size: usize)
         requires { size ≤ 2036 }
         ensures { self.new ≡ after_send self.old size }
@@ -241,7 +244,7 @@ impl TmBuilder {
         self.begun = pass(self.begun, &mut self.sizes, room);
     }
 
-    // Gives up the octets that were sent, once they are no fewer than those that weren't.
+    // Discards the octets that were sent, if they are no fewer than those that were not.
     fn drop_sent(&mut self)
         ensures { self.new ≡ self.old }
     {
@@ -252,15 +255,15 @@ impl TmBuilder {
     }
 }
 
-/// Whether a builder's frames have these identifiers and this many octets: below 1,024, below 8, and
-/// 16 to 2,048.
+/// Returns whether a builder's frames can have these identifiers and this many octets: below 1,024,
+/// below 8, and 16 to 2,048.
 pub fn can_build(scid: u16, vcid: u8, total: usize) -> bool
     ensures { result ≡ builder_fits scid vcid total }
 {
     scid < 1024 && vcid < 8 && 16 <= total && total <= 2048
 }
 
-/// Whether a builder queues the octets: they are exactly one packet, which is not idle.
+/// Returns whether a builder queues the octets: they are exactly one packet, which is not idle.
 pub fn can_queue(octets: &[u8]) -> bool
     ensures value { result ≡ is_to_send octets.now }
     ensures most { IsTrue result → length octets.now ≤ 65542 }
@@ -279,8 +282,8 @@ pub(crate) fn start_after(left: usize, size: usize) -> Pointer
     }
 }
 
-/// The octets left of an idle packet after a data field of `size` octets, where `idle_left` of one
-/// and then `count` octets of packets were to be sent before it.
+/// Returns how many octets are left of an idle packet after a data field of `size` octets. Before
+/// that field, `idle_left` octets of one were to be sent, and then `count` octets of packets.
 pub fn idle_left_after(size: usize, idle_left: usize, count: usize) -> usize
     requires { idle_left ≤ 6 }
     ensures value { result ≡ idle_after size idle_left count }

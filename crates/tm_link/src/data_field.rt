@@ -9,8 +9,8 @@ use std::collections::VecDeque;
 // The idle packet of 7 octets.
 const LEAST_IDLE: [u8; 7] = [0x07, 0xff, 0xc0, 0x00, 0x00, 0x00, 0x55];
 
-// Writes what is left of an idle packet, the octets that are held, and an idle packet in the room
-// that is left, as far as the field goes.
+// Writes what is left of an idle packet, the octets that are held, and an idle packet in the
+// remaining room, up to the field's end.
 pub(crate) fn put_data(idle_left: usize, held: &[u8], out: &mut [u8])
     requires tail { idle_left ≤ 6 }
     requires most { length out.old ≤ 2048 }
@@ -34,7 +34,7 @@ fn put_idle_tail(idle_left: usize, out: &mut [u8])
     out.copy_from_slice(&tail[..out.len()]);
 }
 
-// Writes an idle packet of at least 7 octets, as far as the room goes.
+// Writes an idle packet of at least 7 octets, as far as there is room.
 fn put_idle(out: &mut [u8])
     requires { length out.old ≤ 2048 }
     ensures { out.new ≡ take (length out.old) (idle_packet (max (length out.old) 7)) }
@@ -58,8 +58,8 @@ fn put_whole_idle(out: &mut [u8])
     filler.fill(0x55);
 }
 
-// Passes this many octets of the packet that was begun and of those after it, and says how many are
-// left of the one that is begun then.
+// Moves past this many octets of the packet that was begun and of those after it. Returns how many
+// octets are left of the packet that is begun then.
 #[tactic(auto, using(crate::proofs::Spelled::passed_within, crate::proofs::Spelled::passed_beyond))]
 pub(crate) fn pass(begun: u32, sizes: &mut VecDeque<u32>, count: usize) -> u32
     ensures begun { result ≡ (left_after count begun sizes.old.items).0 }

@@ -10,14 +10,14 @@ use crate::frame::{Pointer, TmFrame};
 use octets::{check_holds, first_two, low_eleven};
 
 /// Reads all of the octets as one frame of `length` octets, 12 more than its data (CCSDS 132.0-B-3,
-/// 4.1), or says the first of the faults that applies. A length outside 16 to 2,048 is 1 `Length`. The
-/// frame borrows its data from the octets.
+/// 4.1). Returns the frame, which borrows its data from the octets, or the first fault that
+/// applies. A length outside 16 to 2,048 is the fault 1 `Length`.
 /// Faults: 1 Length, 2 Version, 3 Check, 4 Status, 5 Pointer, 6 NoOcf. Cost: n.
 #[tactic(auto, using(crate::proofs::Spelled::frame_again))]
 pub fn decode(octets: &[u8], length: usize) -> Result<TmFrame<'_>, TmFault>
     ensures answer { map_ok frame_view result ≡ frame_at length octets.now }
 
-    // It is a frame exactly where the octets spell one.
+    // The result is a frame exactly when the octets spell one.
     ensures found { IfOk result (λ f. IsTmFrame length (frame_view f) octets.now) }
     ensures only { (f : FrameView) → IsTmFrame length f octets.now
         → map_ok frame_view result ≡ Ok f }
@@ -52,7 +52,8 @@ fn frame_of(octets: &[u8], total: usize) -> Result<TmFrame<'_>, TmFault>
     Ok(fields_of(octets, total, first, status))
 }
 
-// The fields of a frame with this many octets, from the numbers of octets 0 and 1 and of octets 4 and 5.
+// Returns the fields of a frame with this many octets, from the numbers of octets 0 and 1 and of
+// octets 4 and 5.
 fn fields_of(octets: &[u8], total: usize, first: u16, status: u16) -> TmFrame<'_>
     requires least { 16 ≤ total }
     requires count { length octets.now ≡ total }

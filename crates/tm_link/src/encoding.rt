@@ -10,10 +10,10 @@ use crate::frame::{Pointer, TmFrame};
 use byteorder::{BigEndian, ByteOrder};
 use octets::append_check;
 
-/// Writes the frame at the beginning of `out`, and says how many octets it has: 12 more than its
-/// data, so 16 to 2,048 (CCSDS 132.0-B-3, 4.1). Octets past it stay. Refuses by 10 `FieldRange` a
-/// field out of its range, a pointer to a place past the data, and data of fewer than 4 or more than
-/// 2,036 octets, and then by 9 `Room` an output that is too short.
+/// Writes the frame at the beginning of `out` (CCSDS 132.0-B-3, 4.1). Returns how many octets it
+/// has: 12 more than its data, so 16 to 2,048. The octets after it do not change. Refuses with 10
+/// `FieldRange` a field out of range, a pointer not below the data's length, and data of fewer than
+/// 4 or more than 2,036 octets. Then refuses with 9 `Room` an output that is too short.
 /// Faults: 10 FieldRange, then 9 Room. Cost: n.
 pub fn encode(frame: &TmFrame, out: &mut [u8]) -> Result<usize, TmFault>
     ensures answer { result ≡ encode_answer (frame_view frame.now) (length out.old) }

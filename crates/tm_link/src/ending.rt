@@ -8,7 +8,7 @@ ghost use Rattle.tm_link.specs.Extractor.{ending_by, ending_of, is_idle};
 use octets::{Wire, first_two, low_eleven};
 use space_packet::{Packets, is_idle_apid, packet_len};
 
-/// Where octets end that begin with the start of a packet.
+/// Where octets end, if they begin with the start of a packet.
 #[derive(Clone, Copy, Debug, PartialEq, Eq)]
 pub enum Ending {
     /// With the packet.
@@ -19,8 +19,8 @@ pub enum Ending {
     Wrong,
 }
 
-/// How the part of a packet, and more octets after it, compare with the length that the packet
-/// declares.
+/// Returns how the part of a packet, and more octets after it, compare with the length that the
+/// packet declares.
 pub fn ending_with(part: &[u8], more: &[u8]) -> Ending
     ensures value { result ≡ ending_of (part.now ++ more.now) }
     ensures short { result ≡ Ending.Short → length part.now + length more.now < 65542 }
@@ -53,7 +53,7 @@ fn ending_for(header: &[u8], count: usize) -> Ending
     }
 }
 
-/// Whether the packet that begins with the part, and more octets after it, is idle (CCSDS
+/// Returns whether the packet that begins with the part, and more octets after it, is idle (CCSDS
 /// 133.0-B-2, 4.1.3.3.4).
 pub fn is_idle_with(part: &[u8], more: &[u8]) -> bool
     requires { 2 ≤ length part.now + length more.now }
@@ -64,7 +64,7 @@ pub fn is_idle_with(part: &[u8], more: &[u8]) -> bool
     is_idle_apid(low_eleven(first_two(&header)))
 }
 
-// Writes the first octets of the two parts.
+// Writes the first octets of the two parts joined.
 fn put_front(part: &[u8], more: &[u8], out: &mut [u8])
     requires { length out.old ≤ length part.now + length more.now }
     ensures { out.new ≡ take (length out.old) (part.now ++ more.now) }
@@ -75,7 +75,7 @@ fn put_front(part: &[u8], more: &[u8], out: &mut [u8])
     rest.copy_from_slice(&more[..rest.len()]);
 }
 
-/// What is left after the whole packets that octets begin with.
+/// Returns what is left after the whole packets at the beginning of the octets.
 /// Cost: the number of packets.
 pub fn rest_after_packets(octets: &[u8]) -> &[u8]
     ensures { result.now ≡ rest_of 6 extent_at octets.now }

@@ -14,9 +14,9 @@ use crate::part::{go_on, open};
 use std::alloc::Global;
 use std::marker::Model;
 
-/// Takes packets out of the frames of one virtual channel, in their order, of which any may be
-/// missing (CCSDS 132.0-B-3, 4.3.2). A packet is finished where all of its octets came; idle packets
-/// are not handed out.
+/// Extracts packets from the frames of one virtual channel, in their order; any frames may be
+/// missing (CCSDS 132.0-B-3, 4.3.2). A packet is finished if all of its octets arrived. Idle
+/// packets are not delivered.
 #[derive(Drop)]
 pub struct Extractor {
     last: Option<u8>,
@@ -37,7 +37,8 @@ impl Model for Extractor {
 }
 
 impl Extractor {
-    /// An extractor that has seen no frame. It reserves the 65,542 octets of the longest packet.
+    /// Creates an extractor that has seen no frame. It reserves the 65,542 octets of the longest
+    /// packet.
     /// Faults: 7 Memory. Memory: yes.
     pub fn new(alloc: Global) -> Result<Self, TmFault>
         ensures ok { IfOk result (λ x. x ≡ new_extractor) }
@@ -53,7 +54,7 @@ impl Extractor {
         }
     }
 
-    /// Begins anew, as an extractor that has seen no frame; it keeps its place.
+    /// Begins again, as an extractor that has seen no frame; it keeps its reserved memory.
     pub fn forget(&mut self)
         ensures { self.new ≡ new_extractor }
     {
@@ -61,9 +62,9 @@ impl Extractor {
         self.part.clear();
     }
 
-    /// Takes the next frame that came, appends the packets that are finished with it, idle ones left
-    /// out, and says how many frames are missing before it (CCSDS 132.0-B-3, 4.3.2). All growths are
-    /// made first: at a fault the extractor and the packets are as they were.
+    /// Takes the next frame that arrived, and appends the packets that are finished with it, except
+    /// idle ones. Returns how many frames are missing before it (CCSDS 132.0-B-3, 4.3.2). All
+    /// allocations are made first, so at a fault the extractor and the packets are as they were.
     /// Faults: 7 Memory. Memory: only where a packet is finished. Cost: n and the packets finished.
     pub fn frame(&mut self, frame: &TmFrame, packets: &mut Vec<Vec<u8>>) -> Result<Gap, TmFault>
         requires { IsTrue (pointer_fits frame.now.pointer (length frame.now.payload.now)) }
@@ -74,12 +75,12 @@ impl Extractor {
         ensures after { OnOk result (self.new
             ≡ (extract_step self.old (frame_view frame.now)).after) }
 
-        // For every stream and every choice of its frames that led here, what arrives with this
-        // frame is what arrived without it, and then the packets that were appended.
+        // What arrives with this frame is what arrived without it, followed by the packets that
+        // were appended. This holds for every stream and every choice of its frames that led here.
         ensures exact { OnOk result (HasGained self.old (frame_view frame.now)
             (octets_of packets.old.items) (octets_of packets.new.items)) }
 
-        // It takes no memory for a frame with which no packet is finished.
+        // The call takes no memory for a frame with which no packet is finished.
         ensures none { (extract_step self.old (frame_view frame.now)).packets ≡ [] → IsOk result }
         ensures kept { OnErr result (packets.new.items ≡ packets.old.items) }
         ensures err { OnErr result (self.new ≡ self.old) }
@@ -104,7 +105,7 @@ impl Extractor {
         Ok(gap)
     }
 
-    // Passes a frame, of whose data this stands after the packets.
+    // Moves past a frame; `rest` is what follows the packets in its data.
     fn pass(&mut self, gap: Gap, frame: &TmFrame, rest: &[u8])
         requires { rest.now ≡ rest_in_frame frame.now.pointer frame.now.payload.now }
         ensures last { self.new.last ≡ Some frame.now.vc_count }

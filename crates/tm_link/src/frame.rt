@@ -13,7 +13,7 @@ pub enum Pointer {
     At(u16),
     /// No packet starts in the data field: 2047.
     NoStart,
-    /// There are only idle data in it: 2046.
+    /// The data field contains only idle data: 2046.
     OnlyIdle,
 }
 
@@ -38,7 +38,7 @@ pub struct TmFrame<'a> {
 }
 
 impl<'a> TmFrame<'a> {
-    /// The report in the operational control field, as the control word's own decoder reads it (CCSDS
+    /// Reads the CLCW in the operational control field with the CLCW's own decoder (CCSDS
     /// 232.0-B-4, 4.2.1).
     /// Faults: those of `ClcwFault`, 1 Kind, 2 Version, 3 Cop, 4 Spare.
     pub fn report(&self) -> Result<Clcw, ClcwFault>

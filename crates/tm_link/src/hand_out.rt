@@ -1,4 +1,4 @@
-// Handing packets out.
+// Delivering packets.
 
 ghost use Rattle.std.specs.Prelude.{◌≡◌, ◌≤◌, ◌+◌, ◌++◌, [], ◌∷◌, length, IsTrue, IsOk, OnOk, IfOk, IfErr};
 ghost use Rattle.octets.specs.Records.{records_of, rest_of};
@@ -13,8 +13,8 @@ use crate::frame::Pointer;
 use space_packet::packet_len;
 use std::alloc::Global;
 
-// Appends the packets that are finished with a frame's data, and answers what stands after those that
-// begin with it.
+// Appends the packets that are finished with a frame's data. Returns what follows the whole packets
+// that start in it.
 pub(crate) fn find<'a>(
     alloc: Global,
     part: &[u8],
@@ -43,7 +43,7 @@ pub(crate) fn find<'a>(
     }
 }
 
-// Appends the packet that the part, and these octets after it, are.
+// Appends the packet that the part and these octets after it form, if any.
 fn close(alloc: Global, part: &[u8], octets: &[u8], found: &mut Vec<Vec<u8>>) -> Result<(), TmFault>
     ensures ok { OnOk result (GrowsBy found.old found.new
         (without_idle (completed_packet part.now octets.now))) }
@@ -59,7 +59,7 @@ fn close(alloc: Global, part: &[u8], octets: &[u8], found: &mut Vec<Vec<u8>>) ->
     hand_out(alloc, part, octets, found)
 }
 
-// Appends the whole packets that stand first, and answers what stands after them.
+// Appends the whole packets at the beginning, and returns what follows them.
 fn split<'a>(alloc: Global, octets: &'a [u8], found: &mut Vec<Vec<u8>>) -> Result<&'a [u8], TmFault>
     ensures ok { OnOk result (GrowsBy found.old found.new
         (without_idle (records_of 6 extent_at octets.now))) }

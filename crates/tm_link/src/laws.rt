@@ -1,4 +1,4 @@
-// What follows for frames and packets from their layouts; these functions do nothing.
+// What follows for frames and packets from their layouts. These functions do nothing.
 
 ghost use Rattle.std.specs.Prelude.{◌≡◌, ◌++◌, ℕ, List, [], Bool, length, true, Ok};
 ghost use Rattle.std.specs.List.{AllByRecursion};
@@ -13,7 +13,8 @@ ghost use Rattle.tm_link.specs.Decoding.{frame_at};
 ghost use Rattle.tm_link.specs.Stream.{carried_octets, IsLaidOut, IsClose, choice, arrived_packets};
 ghost use Rattle.tm_link.specs.Encoding.{total_of, frame_fits, spelling};
 
-/// A frame whose fields are in range has its spelling, and no other octets spell it.
+/// States that a frame whose fields are in range has its spelling, and that no other octets spell
+/// it.
 pub fn law_of_spelling()
     ensures spells { (f : FrameView) → length f.ocf ≡ 4 → frame_fits f ≡ true
         → IsTmFrame (total_of f) f (spelling f) }
@@ -21,13 +22,14 @@ pub fn law_of_spelling()
         → octets ≡ spelling f }
 {}
 
-/// The octets of a frame are read as that frame.
+/// States that the octets of a frame are read as that frame.
 pub fn law_of_reading()
     ensures { (total : ℕ) (f : FrameView) (octets : List ℕ) → IsTmFrame total f octets
         → frame_at total octets ≡ Ok f }
 {}
 
-/// What `TmBuilder::queue` takes is the octets of exactly one packet, of an APID other than 2047.
+/// States that the octets that `TmBuilder::queue` takes are those of exactly one packet, of an APID
+/// other than 2047.
 pub fn law_of_queueing()
     ensures only { (octets : List ℕ) → IsOctets octets → is_to_send octets ≡ true
         → (p : PacketView) × IsToSend p octets }
@@ -35,10 +37,11 @@ pub fn law_of_queueing()
         → is_to_send octets ≡ true }
 {}
 
-/// Of frames that lay out a stream of packets, any may be missing before the first that comes, and
-/// fewer than 256 between two that come: a new extractor hands out exactly the packets all of whose
-/// octets came, in their order; where all frames of a whole stream come, all packets. Each frame has
-/// an octet as its count and some data, as all that octets spell have.
+/// States which packets a new extractor delivers from frames that lay out a stream of packets. Any
+/// number of frames may be missing before the first that arrives, and fewer than 256 between two
+/// that arrive. The extractor delivers exactly the packets whose octets all arrived, in their order
+/// (`some`). If all frames of a whole stream arrive, it delivers all packets (`all`). Each frame
+/// has an octet as its count, and some data; every frame that octets spell has both (`range`).
 pub fn law_of_extraction()
     ensures some { (packets : List (List ℕ)) (frames : List FrameView) (rest : List ℕ)
         (laid : IsLaidOut packets frames rest) (chosen : List Bool)
@@ -51,11 +54,12 @@ pub fn law_of_extraction()
         → IsInRange f }
 {}
 
-/// After an outage of any length, also one of 256 frames or a multiple, which the counts do not show:
-/// whatever an extractor holds, it hands out what a new one would of the frames that come then, and
-/// before that at most one packet (`any`). So where those are frames that lay out a stream, fewer than
-/// 256 of them missing between two that come, what it hands out is, but for at most the first packet,
-/// exactly the packets all of whose octets came since, in their order (`arrived`).
+/// States what an extractor delivers after an outage of any length, also one of 256 frames or a
+/// multiple, which the counts do not show. Whatever the extractor holds, it delivers what a new one
+/// would deliver from the frames that arrive afterwards, and before that at most one packet
+/// (`any`). So suppose that those frames lay out a stream, and that fewer than 256 of them are
+/// missing between two that arrive. Then it delivers, after at most one other packet, exactly the
+/// packets whose octets all arrived since, in their order (`arrived`).
 pub fn law_of_outage()
     ensures any { (s : ExtractorState) (frames : List FrameView)
         → AreButForTheFirst (all_extracted s frames) (all_extracted new_extractor frames) }
@@ -66,7 +70,8 @@ pub fn law_of_outage()
         (arrived_packets laid.all frames chosen) }
 {}
 
-/// The stream that frames lay out is packets, idle ones among them: each of its records spells one.
+/// States that the stream that frames lay out consists of packets, idle ones among them: each of
+/// its records spells one.
 pub fn law_of_stream()
     ensures { (packets : List (List ℕ)) (frames : List FrameView) (rest : List ℕ)
         (laid : IsLaidOut packets frames rest)

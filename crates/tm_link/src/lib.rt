@@ -1,11 +1,11 @@
 //! Telemetry transfer frames (CCSDS 132.0-B-3) of one fixed length.
 //!
-//! `decode` reads octets that are exactly one frame, and otherwise says the first fault; `encode`
-//! writes the one spelling of a frame. `TmBuilder` builds frames of the packets that it
-//! is given, and `Extractor` takes packets out of the frames that came.
+//! `decode` reads octets that are exactly one frame, and otherwise returns the first fault.
+//! `encode` writes the one spelling of a frame. `TmBuilder` builds frames from the packets that are
+//! queued, and `Extractor` extracts packets from the frames that arrived.
 //!
-//! The other calls are what a builder and an extractor are made of. They are for callers that keep the
-//! octets themselves, as the library for C does.
+//! The other calls are the parts of a builder and an extractor. They are for callers that keep the
+//! octets themselves, like the library for C.
 #![tactic(auto)]
 
 mod builder;

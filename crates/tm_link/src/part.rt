@@ -5,7 +5,7 @@ ghost use Rattle.tm_link.specs.Extractor.{continued_part, opened_part};
 
 use crate::ending::{Ending, ending_with};
 
-// Goes on with the part.
+// Continues the part with these octets.
 pub(crate) fn go_on(part: &mut Vec<u8>, octets: &[u8])
     requires { 65542 ≤ vec_capacity part.old }
     ensures part { part.new.items ≡ continued_part part.old.items octets.now }
@@ -22,7 +22,7 @@ pub(crate) fn go_on(part: &mut Vec<u8>, octets: &[u8])
     }
 }
 
-// Begins a part with what stands after whole packets.
+// Begins a part with what follows the whole packets.
 pub(crate) fn open(part: &mut Vec<u8>, rest: &[u8])
     requires { 65542 ≤ vec_capacity part.old }
     ensures part { part.new.items ≡ opened_part rest.now }

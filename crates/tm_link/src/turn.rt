@@ -1,4 +1,4 @@
-// The next frame of a builder, wherever its octets are kept.
+// The next frame of a builder, whose octets may be kept anywhere.
 
 ghost use Rattle.std.specs.Prelude.{◌≡◌, ◌≤◌, ◌<◌, ◌+◌, ◌-◌, ◌^◌, length, true};
 ghost use Rattle.tm_link.specs.Builder.{builder_fits, frame_built, field_with, pointer_with, state_with};
@@ -11,7 +11,7 @@ use crate::encoding::put_header;
 use crate::frame::{Pointer, TmFrame};
 use octets::append_check;
 
-/// What a builder knows beside the octets that it still has to send, which it keeps elsewhere (CCSDS
+/// What a builder holds in addition to the octets still to be sent, which it keeps elsewhere (CCSDS
 /// 132.0-B-3, 4.2).
 #[derive(Clone, Copy, Debug, PartialEq, Eq)]
 pub struct Turn {
@@ -29,9 +29,9 @@ pub struct Turn {
     pub begun: usize,
 }
 
-/// Writes the next frame, with this operational control field, over all of `out`: the octets that
-/// are to be sent as far as it has room, and after them an idle packet; where nothing is to be sent,
-/// only idle data (CCSDS 132.0-B-3, 4.1.4 and 4.2.2).
+/// Writes the next frame, with this operational control field, over all of `out` (CCSDS 132.0-B-3,
+/// 4.1.4 and 4.2.2). It contains the octets that are to be sent, as far as it has room, and after
+/// them an idle packet. If nothing is to be sent, it contains only idle data.
 /// Cost: n.
 pub fn put_next(turn: &Turn, pending: &[u8], ocf: [u8; 4], out: &mut [u8])
     requires fits { builder_fits turn.now.scid turn.now.vcid (length out.old) ≡ true }
@@ -74,7 +74,7 @@ fn put_front(turn: &Turn, pending: &[u8], ocf: [u8; 4], out: &mut [u8])
     last.copy_from_slice(&ocf);
 }
 
-// Fills the data field, and says where the first packet starts in it.
+// Fills the data field, and returns where the first packet starts in it.
 fn put_field(turn: &Turn, pending: &[u8], field: &mut [u8]) -> Pointer
     requires most { length field.old ≤ 2036 }
     requires idle_left { turn.now.idle_left ≤ 6 }

@@ -1,7 +1,7 @@
-//! Tests of the lower layers by their public calls alone: the check and the splitter (`octets`), packets
-//! (`space_packet`), frames (`tc_frame`), control words (`clcw`), telemetry (`tm_link`), segments
-//! (`map_service`), and COP-1's receiver and sender (`cop1`). They are a crate of their own, so that the
-//! layers aren't proved once more with them.
+//! Tests of the lower layers, only by their public calls: the FECF and the splitter (`octets`), packets
+//! (`space_packet`), frames (`tc_frame`), CLCWs (`clcw`), telemetry (`tm_link`), segments (`map_service`),
+//! and the receiver and the sender of COP-1 (`cop1`). The tests are a separate crate, so that the layers are
+//! not proved again with them.
 #![tactic(auto)]
 
 #[cfg(test)]

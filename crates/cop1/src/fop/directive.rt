@@ -1,4 +1,4 @@
-// What a directive does at the sender.
+// How the sender responds to a directive.
 
 use super::Fop;
 use super::trim::trim;
@@ -9,9 +9,9 @@ impl<U: Drop> Fop<U> {
     ghost use Rattle.std.specs.Prelude.{◌≡◌};
     ghost use Rattle.cop1.specs.UnitsStep.{fop_step, Direct};
 
-    /// Follows a directive; the alert is that of `Terminate` (CCSDS 232.1-B-2, table 5-1). Refuses a
-    /// value that is out of its range; in the wrong state, an initiation and `SetVs`, which are
-    /// followed in S6 alone, and `Terminate`, in S1 to S5.
+    /// Follows a directive (CCSDS 232.1-B-2, table 5-1). Returns an alert only for `Terminate`.
+    /// Refuses a value that is out of range. Also refuses an initiation or `SetVs` in any state
+    /// other than S6, and `Terminate` in S6.
     /// Faults: 2 Window, 3 Limit, 4 Timer, 8 WrongState. Cost: 1; for `Terminate` the number of units
     /// released.
     pub fn directive(&mut self, directive: Directive) -> Result<Option<Alert>, CopFault>

@@ -1,4 +1,4 @@
-// A sender that goes on with numbers that were kept.
+// A sender that continues with numbers that were kept.
 
 use super::Fop;
 use crate::fault::CopFault;
@@ -12,9 +12,10 @@ impl<U: Drop> Fop<U> {
     ghost use Rattle.cop1.specs.Modulo.{ahead_by};
     ghost use Rattle.cop1.specs.FopKept.{kept_fop, kept_fault};
 
-    /// A sender as `new` makes it, in its state S6, but with this V(S) and this NN(R), which were kept of
-    /// another. The first that applies: 1 Width, 2 Window, 3 Limit, 4 Timer, as of `new`; 9 State (V(S) is
-    /// above NN(R) by more than half the width), 5 Memory.
+    /// Creates a sender as `new` does, in its state S6, but with this V(S) and this NN(R), which
+    /// were kept from another sender. Refuses with the first fault that applies: those of `new` (1
+    /// Width, 2 Window, 3 Limit, 4 Timer), 9 State (V(S) is above NN(R) by more than half the
+    /// width), 5 Memory.
     /// Faults: 1 Width, 2 Window, 3 Limit, 4 Timer, 9 State, 5 Memory. Memory: yes.
     pub fn kept(
         alloc: Global,
@@ -47,8 +48,8 @@ impl<U: Drop> Fop<U> {
             bypass: VecDeque::new(alloc),
         })
     }
-    /// How many units were sent and are not acknowledged, after an alert too, by V(S) and NN(R) (CCSDS
-    /// 232.1-B-2, 5.1): half the receiver's window width at most.
+    /// Returns how many units were sent and are not acknowledged, also after an alert, by V(S) and
+    /// NN(R) (CCSDS 232.1-B-2, 5.1): at most half the receiver's window width.
     pub fn beyond(&self) -> u8
         ensures count { result ≡ ahead_by self.now.vs self.now.nn }
         ensures most { result ≤ self.now.room }

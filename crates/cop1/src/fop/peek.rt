@@ -1,4 +1,4 @@
-// What would go on the link next.
+// What would be sent on the link next.
 
 ghost use Rattle.std.specs.Prelude.{◌≡◌, option_copied};
 ghost use Rattle.cop1.specs.UnitsNext.{peeked_view};
@@ -17,7 +17,8 @@ impl<U: Drop> Fop<U> {
     ghost use Rattle.cop1.specs.UnitsNext.{peeked_view};
     ghost use Rattle.cop1.specs.UnitsStep.{fop_step, Pull};
 
-    /// What goes on the link next, as `pull` would take it, each unit lent; the sender stays as it is.
+    /// Returns what is sent on the link next, as `pull` would take it, and lends each unit. The
+    /// sender does not change.
     pub fn peek(&self) -> Pulled<'_, U, &U>
         ensures { peeked_view result ≡ (fop_step self.now Pull).answer }
     {
@@ -29,7 +30,7 @@ impl<U: Drop> Fop<U> {
     }
 }
 
-// The oldest bypass unit, unless a control command is due.
+// Returns the oldest bypass unit, unless a control command is due.
 fn oldest_bypass<'a, U>(sender: &Sender, bypass: &'a VecDeque<U>) -> Option<&'a U>
     ensures { option_copied result ≡ first_bypass (is_due sender.now.control) bypass.now.items }
 {
@@ -39,7 +40,7 @@ fn oldest_bypass<'a, U>(sender: &Sender, bypass: &'a VecDeque<U>) -> Option<&'a 
     }
 }
 
-// What goes on the link, the unit that waits or one of the sent queue.
+// Returns what is sent on the link, with the unit that waits or one of the sent queue.
 fn unit_at<'a, U>(
     next: SenderNext,
     nn: u8,

@@ -1,4 +1,4 @@
-// What goes on the link next.
+// What is sent on the link next.
 
 ghost use Rattle.std.specs.Prelude.{◌≡◌, ◌≤◌, if◌then◌else◌, is_some, length, drop};
 ghost use Rattle.circular_buffer.specs.Buffer.{buffer};
@@ -12,23 +12,22 @@ use circular_buffer::HeapCircularBuffer;
 use std::collections::VecDeque;
 use tc_frame::Command;
 
-/// What goes on the link next, with `B` for a unit of the bypass queue: the unit that is pulled, or
-/// the one that is peeked at, lent.
+/// What is sent on the link next. `B` is the type of a unit of the bypass queue: the unit itself if
+/// it is pulled, or the unit lent if it is peeked at.
 #[derive(Drop)]
 pub enum Pulled<'a, U, B = U> {
     /// Nothing.
     Nothing,
     /// A control command, in a Type-BC frame.
     Control(Command),
-    /// A unit to be sent past the sequence control, in a Type-BD frame. Once it is pulled it has left
-    /// the sender.
+    /// A unit to be sent by bypass, in a Type-BD frame. Once it is pulled, it has left the sender.
     Bypass(B),
-    /// A unit to be sent under sequence control, in a Type-AD frame with this number. Once it is pulled
-    /// it stays in the sent queue until it is acknowledged.
+    /// A unit to be sent under sequence control, in a Type-AD frame with this number. Once it is
+    /// pulled, it stays in the sent queue until it is acknowledged.
     Sequence(u8, &'a U),
 }
 
-// What goes on the link next, a unit of the sent queue by its place there.
+// What is sent on the link next, with a unit of the sent queue given by its place there.
 #[derive(Drop)]
 enum Next<U> {
     Nothing,
@@ -44,7 +43,7 @@ impl<U: Drop> Fop<U> {
     ghost use Rattle.cop1.specs.UnitsLent.{EndsAs};
     ghost use Rattle.cop1.specs.UnitsStep.{fop_step, Pull};
 
-    // Takes what goes on the link next.
+    // Takes what is sent on the link next.
     fn next(&mut self) -> Next<U>
         ensures after { self.new ≡ (fop_step self.old Pull).after }
         ensures answer { seen_at (units_of self.new.sent) result ≡ (fop_step self.old Pull).answer }
@@ -59,17 +58,17 @@ impl<U: Drop> Fop<U> {
         next_at(nn, next)
     }
 
-    /// Counts what goes on the link next as sent, as `pull` does; `peek` lends it.
+    /// Counts as sent what is sent on the link next, as `pull` does; `peek` lends it.
     pub fn advance(&mut self)
         ensures { self.new ≡ (fop_step self.old Pull).after }
     {
         let _sent = self.next();
     }
 
-    /// Takes what goes on the link next, by the first rule that applies: the control command of S5,
-    /// where it is due; the oldest bypass unit; in S1 and S2 the oldest unit that is marked to be
-    /// sent again; in S1 and S2 the unit that waits, where the window has room for it (CCSDS
-    /// 232.1-B-2, 5.2). A unit of the sent queue is lent.
+    /// Takes what is sent on the link next, by the first rule that applies (CCSDS 232.1-B-2, 5.2).
+    /// The rules are: the control command of S5, if it is due; the oldest bypass unit; in S1 and S2
+    /// the oldest unit that is marked to be retransmitted; in S1 and S2 the unit that waits, if the
+    /// window has room for it. A unit of the sent queue is lent.
     pub fn pull(&mut self) -> Pulled<'_, U>
         ensures* after { sem 𝓛 (EndsAs U.row self.entry (fop_step self.old Pull).after) }
         ensures answer { pulled_view result ≡ (fop_step self.old Pull).answer }
@@ -95,7 +94,7 @@ impl<U: Drop> Fop<U> {
     }
 }
 
-// The oldest bypass unit, unless a control command is due.
+// Takes the oldest bypass unit, unless a control command is due.
 fn first_bypass<U: Drop>(sender: &Sender, bypass: &mut VecDeque<U>) -> Option<U>
     ensures unit { result ≡ first_bypass (is_due sender.now.control) bypass.old.items }
     ensures bypass { bypass.new.items
@@ -107,7 +106,7 @@ fn first_bypass<U: Drop>(sender: &Sender, bypass: &mut VecDeque<U>) -> Option<U>
     }
 }
 
-// The unit that waits goes to the sent queue, where it goes on the link.
+// Moves the unit that waits to the sent queue, if it is sent on the link.
 fn take_first<U: Drop>(next: SenderNext, waiting: &mut Option<U>, sent: &mut HeapCircularBuffer<U>)
     requires { length (units_after next waiting.old sent.old.items) ≤ sent.old.capacity }
     ensures waiting { waiting.new ≡ waiting_after next waiting.old }
@@ -121,7 +120,7 @@ fn take_first<U: Drop>(next: SenderNext, waiting: &mut Option<U>, sent: &mut Hea
     }
 }
 
-// What goes on the link, a unit by its place in the sent queue.
+// Returns what is sent on the link, with a unit given by its place in the sent queue.
 fn next_at<U>(nn: u8, next: SenderNext) -> Next<U>
     ensures { result ≡ next_at nn next }
 {

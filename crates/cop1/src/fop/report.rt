@@ -1,4 +1,4 @@
-// What a report does at the sender.
+// How the sender responds to a CLCW.
 
 use super::Fop;
 use super::trim::trim;
@@ -9,8 +9,8 @@ impl<U: Drop> Fop<U> {
     ghost use Rattle.std.specs.Prelude.{◌≡◌};
     ghost use Rattle.cop1.specs.UnitsStep.{fop_step, Report};
 
-    /// The control word of a report has come; an alert where the sender gives up (CCSDS 232.1-B-2,
-    /// table 5-1).
+    /// Processes a CLCW that arrived (CCSDS 232.1-B-2, table 5-1). Returns an alert if the sender
+    /// gives up.
     /// Cost: the number of units released, at most 127.
     pub fn clcw(&mut self, report: &Clcw) -> Option<Alert>
         ensures after { self.new ≡ (fop_step self.old (Report report.now)).after }

@@ -1,4 +1,4 @@
-// How units come to the sender.
+// How the sender takes units.
 
 use super::Fop;
 use crate::fault::CopFault;
@@ -7,8 +7,8 @@ impl<U: Drop> Fop<U> {
     ghost use Rattle.std.specs.Prelude.{◌≡◌, OnOk, OnErr, IfErr};
     ghost use Rattle.cop1.specs.UnitsStep.{fop_step, Submit, Bypass};
 
-    /// A unit to be sent under sequence control (CCSDS 232.1-B-2, table 5-1). It comes back with the
-    /// fault: in S6, and where the wait queue's one place is taken.
+    /// Takes a unit to be sent under sequence control (CCSDS 232.1-B-2, table 5-1). Returns it with
+    /// the fault in S6, and if the wait queue already holds a unit.
     /// Faults: 6 NotOpen, 7 Busy.
     pub fn submit(&mut self, unit: U) -> Result<(), (CopFault, U)>
         ensures after { self.new ≡ (fop_step self.old (Submit unit)).after }
@@ -23,8 +23,8 @@ impl<U: Drop> Fop<U> {
         }
     }
 
-    /// A unit to be sent past the sequence control, in any state (CCSDS 232.1-B-2, table 5-1). It comes
-    /// back with the fault.
+    /// Takes a unit to be sent by bypass, in any state (CCSDS 232.1-B-2, table 5-1). If it is
+    /// refused, it is returned with the fault.
     /// Faults: 5 Memory. Memory: yes. Cost: 1*.
     pub fn bypass(&mut self, unit: U) -> Result<(), (CopFault, U)>
         ensures ok { OnOk result (self.new ≡ (fop_step self.old (Bypass unit)).after) }

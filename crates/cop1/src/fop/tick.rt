@@ -1,4 +1,4 @@
-// What a tick of the clock does at the sender.
+// How the sender responds to a tick of the clock.
 
 use super::Fop;
 use super::trim::trim;
@@ -8,8 +8,8 @@ impl<U: Drop> Fop<U> {
     ghost use Rattle.std.specs.Prelude.{◌≡◌};
     ghost use Rattle.cop1.specs.UnitsStep.{fop_step, Tick};
 
-    /// A tick of the clock has passed; an alert where the sender gives up (CCSDS 232.1-B-2, table
-    /// 5-1).
+    /// Counts a tick of the clock (CCSDS 232.1-B-2, table 5-1). Returns an alert if the sender
+    /// gives up.
     /// Cost: the number of units released, at most 127.
     pub fn tick(&mut self) -> Option<Alert>
         ensures after { self.new ≡ (fop_step self.old Tick).after }

@@ -1,4 +1,4 @@
-// What the sender's numbers no longer count is let go of.
+// Releases the units that the sender's numbers no longer count.
 
 ghost use Rattle.std.specs.Prelude.{◌≡◌};
 ghost use Rattle.circular_buffer.specs.Buffer.{buffer, keep_last};

@@ -1,4 +1,4 @@
-// What a directive does at the sender.
+// How the sender responds to a directive.
 
 ghost use Rattle.std.specs.Prelude.{◌≡◌};
 ghost use Rattle.cop1.specs.FopDirective.{after_begin};
@@ -13,9 +13,9 @@ impl Sender {
     ghost use Rattle.std.specs.Prelude.{◌≡◌};
     ghost use Rattle.cop1.specs.NumbersStep.{sender_step, Direct};
 
-    /// Follows a directive; the alert is that of `Terminate`, and all units are let go of (CCSDS
-    /// 232.1-B-2, table 5-1). Refuses a value that is out of its range; in the wrong state, an
-    /// initiation and `SetVs`, which are followed in S6 alone, and `Terminate`, in S1 to S5.
+    /// Follows a directive (CCSDS 232.1-B-2, table 5-1). Returns an alert only for `Terminate`; the
+    /// caller then releases all units. Refuses a value that is out of range. Also refuses an
+    /// initiation or `SetVs` in any state other than S6, and `Terminate` in S6.
     /// Faults: 2 Window, 3 Limit, 4 Timer, 8 WrongState.
     pub fn directive(&mut self, directive: Directive) -> Result<Option<Alert>, CopFault>
         ensures after { self.new ≡ (sender_step self.old (Direct directive)).after }
@@ -59,7 +59,7 @@ impl Sender {
     }
 }
 
-// It leaves S6 with this number for V(S) and NN(R).
+// Leaves S6 with this number for V(S) and NN(R).
 fn begun(fields: SenderFields, number: u8, state: FopMode, control: Control) -> SenderFields
     ensures { numbers_of result ≡ record (after_begin (numbers_of fields)) {
       vs = number;

@@ -1,18 +1,18 @@
-// What goes on the link next.
+// What is sent on the link next.
 
 use super::Sender;
 use crate::vocabulary::{Control, FopMode};
 use tc_frame::Command;
 
-/// What goes on the link next, a unit by its number.
+/// What is sent on the link next, with a unit given by its number.
 #[derive(Clone, Copy, Debug, PartialEq, Eq)]
 pub enum SenderNext {
     /// Nothing.
     Nothing,
     /// A control command, in a Type-BC frame.
     Control(Command),
-    /// The unit that waits, in a Type-AD frame with this number. It is kept under that number until it
-    /// is acknowledged.
+    /// The unit that waits, in a Type-AD frame with this number. The caller keeps it under that
+    /// number until it is acknowledged.
     First(u8),
     /// The unit that is kept under this number, in a Type-AD frame with it.
     Again(u8),
@@ -26,11 +26,11 @@ impl Sender {
     ghost use Rattle.cop1.specs.Numbers.{TheWaiting};
     ghost use Rattle.cop1.specs.NumbersStep.{sender_step, Next};
 
-    /// What goes on the link next, by the first rule that applies: the control command of S5, where it
-    /// is due; in S1 and S2 the oldest unit that is due to be sent again; in S1 and S2 the unit that
-    /// waits, where the window has room for it (CCSDS 232.1-B-2, 5.2). What the caller sends past the
-    /// sequence control goes after a command that is due (`fields().control` is `Due`), and before
-    /// units. The sender stays as it is.
+    /// Returns what is sent on the link next, by the first rule that applies (CCSDS 232.1-B-2,
+    /// 5.2). The rules are: the control command of S5, if it is due; in S1 and S2 the oldest unit
+    /// that is due to be retransmitted; in S1 and S2 the unit that waits, if the window has room
+    /// for it. The caller sends its bypass units after a command that is due (`fields().control` is
+    /// `Due`), and before units. The sender does not change.
     #[inline(always)]
     pub fn peek(&self) -> SenderNext
         ensures { result ≡ (sender_step self.now Next).answer }
@@ -50,7 +50,7 @@ impl Sender {
         }
     }
 
-    /// Takes what goes on the link next, which `peek` gives, and counts it as sent.
+    /// Takes what is sent on the link next, which `peek` returns, and counts it as sent.
     pub fn next(&mut self) -> SenderNext
         ensures after { self.new ≡ (sender_step self.old Next).after }
         ensures answer { result ≡ (sender_step self.old Next).answer }
@@ -60,7 +60,7 @@ impl Sender {
         next
     }
 
-    // What `peek` gave is sent.
+    // Counts what `peek` returned as sent.
     #[inline(always)]
     fn send(&mut self, next: SenderNext)
         requires { next ≡ (sender_step self.old Next).answer }
@@ -80,7 +80,7 @@ impl Sender {
         }
     }
 
-    // The unit that waits is sent, and there is room for it.
+    // Counts the unit that waits as sent; the window has room for it.
     #[inline(always)]
     fn send_first(&mut self)
         requires active { IsActive self.old.state }

@@ -1,4 +1,4 @@
-// What a report does at the sender.
+// How the sender responds to a CLCW.
 
 ghost use Rattle.std.specs.Prelude.{◌≡◌};
 
@@ -8,12 +8,12 @@ use crate::vocabulary::{Alert, Control, FopMode};
 use bitflags::Flags;
 use clcw::{Clcw, ClcwFlags};
 
-/// What a report leads to: which units are let go of.
+/// The answer to a CLCW: which units the caller releases.
 #[derive(Clone, Copy, Debug, PartialEq, Eq)]
 pub struct ReportAnswer {
-    /// How many units are acknowledged, the oldest of those sent; they are let go of.
+    /// How many units are acknowledged, the oldest of those sent; the caller releases them.
     pub released: u8,
-    /// Why the sender gives up, where it does: all units are let go of.
+    /// Why the sender gives up, if it does; the caller then releases all units.
     pub alert: Option<Alert>,
 }
 
@@ -25,8 +25,8 @@ impl Sender {
     ghost use Rattle.cop1.specs.FopVariables.{IsActive};
     ghost use Rattle.cop1.specs.FopWords.{is_outside, alerts};
 
-    /// The control word of a report has come (CCSDS 232.1-B-2, table 5-1). The caller releases as many
-    /// of the oldest units as it says; at an alert, all.
+    /// Processes a CLCW that arrived (CCSDS 232.1-B-2, table 5-1). The caller releases as many of
+    /// the oldest units as the answer states, and all units at an alert.
     pub fn report(&mut self, report: &Clcw) -> ReportAnswer
         ensures after { self.new ≡ (sender_step self.old (Report report.now)).after }
         ensures answer { result ≡ report_answer (sender_step self.old (Report report.now)) }
@@ -42,7 +42,7 @@ impl Sender {
         }
     }
 
-    // S1 to S3: of eight rules, in this order, the first that applies decides.
+    // S1 to S3: the first of eight rules that applies, in this order, decides.
     fn report_while_active(&mut self, report: &Clcw) -> ReportAnswer
         requires { IsActive self.old.state }
         ensures after { self.new ≡ (report_while_active self.old report.now).after }
@@ -74,7 +74,7 @@ impl Sender {
         unreleased(self.ask_for_all(waits))
     }
 
-    // Rule 5: nothing is acknowledged, and nothing asked for.
+    // Rule 5: nothing is acknowledged, and no retransmission is requested.
     fn nothing_new(&mut self) -> Option<Alert>
         requires { IsActive self.old.state }
         ensures after { self.new ≡ (nothing_new self.old self.old.state).after }
@@ -86,7 +86,7 @@ impl Sender {
         }
     }
 
-    // Rule 6: units are acknowledged, and nothing asked for.
+    // Rule 6: units are acknowledged, and no retransmission is requested.
     fn move_on(&mut self, value: u8) -> ReportAnswer
         requires active { IsActive self.old.state }
         requires inside { is_outside self.old value ≡ false }
@@ -108,7 +108,7 @@ impl Sender {
         }
     }
 
-    // Rule 7: units are acknowledged, and the others asked for.
+    // Rule 7: units are acknowledged, and retransmission of the others is requested.
     fn ask_for_others(&mut self, value: u8, wait: bool) -> ReportAnswer
         requires active { IsActive self.old.state }
         requires inside { is_outside self.old value ≡ false }
@@ -123,7 +123,7 @@ impl Sender {
         ReportAnswer { released, alert }
     }
 
-    // Rule 8: nothing is acknowledged, and all that was sent asked for.
+    // Rule 8: nothing is acknowledged, and retransmission of all units sent is requested.
     fn ask_for_all(&mut self, wait: bool) -> Option<Alert>
         requires active { IsActive self.old.state }
         requires sent { 1 ≤ self.old.sent.count }
@@ -134,7 +134,8 @@ impl Sender {
         self.ask_again(wait, repeats)
     }
 
-    // Units are asked for again, which may be sent once alone, or not while the receiver waits.
+    // Responds to a request for retransmission. The sender gives up if each unit may be sent only
+    // once, and goes to S3 if the receiver waits. Otherwise it goes to S2, with or without Repeat.
     fn ask_again(&mut self, wait: bool, repeats: bool) -> Option<Alert>
         requires active { IsActive self.old.state }
         requires sent { 1 ≤ self.old.sent.count }

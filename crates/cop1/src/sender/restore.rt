@@ -1,4 +1,4 @@
-// A sender from what was kept of it.
+// A sender from numbers that were kept.
 
 ghost use Rattle.std.specs.Prelude.{◌≡◌, ◌↔◌, IsTrue, IsOk, IfOk, IfErr};
 ghost use Rattle.cop1.specs.Numbers.{IsSender, HasRanges, AgreesWithState, IsCommanding, SetsTo};
@@ -10,9 +10,9 @@ use crate::vocabulary::{Control, FopMode};
 use tc_frame::Command;
 
 impl Sender {
-    /// The sender with these numbers, which `fields` gave. Refuses numbers that no sender comes to; the
-    /// transmission count alone may be any from 1. So a sender goes on: where something is awaited, the
-    /// timer runs or a command is due.
+    /// Creates the sender with these numbers, which `fields` returned. Refuses numbers that no
+    /// sender reaches; only the transmission count may be any from 1. So a sender can continue: if
+    /// it awaits something, the timer runs or a command is due.
     /// Faults: 9 State.
     #[inline(always)]
     pub fn restore(fields: SenderFields) -> Result<Sender, CopFault>
@@ -27,7 +27,7 @@ impl Sender {
         }
     }
 
-    /// The numbers as they are.
+    /// Returns the sender's current numbers.
     #[inline(always)]
     pub fn fields(&self) -> SenderFields
         ensures fields { numbers_of result ≡ self.now }

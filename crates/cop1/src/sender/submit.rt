@@ -1,4 +1,4 @@
-// How units come to the sender.
+// How the sender takes units.
 
 use super::Sender;
 use crate::fault::CopFault;
@@ -9,8 +9,8 @@ impl Sender {
     ghost use Rattle.cop1.specs.Numbers.{IsSender};
     ghost use Rattle.cop1.specs.NumbersStep.{sender_step, Submit};
 
-    /// A unit has come to be sent under sequence control, and waits: the caller keeps it (CCSDS
-    /// 232.1-B-2, table 5-1). It is refused in S6, and where one waits already.
+    /// Accepts a unit to be sent under sequence control, which then waits; the caller keeps it
+    /// (CCSDS 232.1-B-2, table 5-1). Refuses it in S6, and if a unit already waits.
     /// Faults: 6 NotOpen, 7 Busy.
     pub fn submit(&mut self) -> Result<(), CopFault>
         ensures after { self.new ≡ (sender_step self.old Submit).after }

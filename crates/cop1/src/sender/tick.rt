@@ -1,4 +1,4 @@
-// What a tick of the clock does at the sender.
+// How the sender responds to a tick of the clock.
 
 use super::Sender;
 use crate::vocabulary::{Alert, Control, FopMode};
@@ -9,8 +9,8 @@ impl Sender {
     ghost use Rattle.cop1.specs.FopWords.{after_stop};
     ghost use Rattle.cop1.specs.NumbersStep.{sender_step, Tick};
 
-    /// A tick of the clock has passed; an alert where the sender gives up, and all units are let go
-    /// of (CCSDS 232.1-B-2, table 5-1).
+    /// Counts a tick of the clock (CCSDS 232.1-B-2, table 5-1). Returns an alert if the sender
+    /// gives up; the caller then releases all units.
     pub fn tick(&mut self) -> Option<Alert>
         ensures after { self.new ≡ (sender_step self.old Tick).after }
         ensures alert { result ≡ (sender_step self.old Tick).answer }

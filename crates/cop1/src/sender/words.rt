@@ -1,4 +1,4 @@
-// The words of the sender's rules: restart, acknowledge, repeat, alert.
+// The operations of the sender's rules: restart, acknowledge, repeat, alert.
 
 ghost use Rattle.std.specs.Prelude.{◌≡◌, ◌≤◌};
 ghost use Rattle.cop1.specs.Modulo.{ahead_by};
@@ -53,7 +53,7 @@ impl Sender {
     }
 }
 
-// The units before a value that is not outside are let go of.
+// Acknowledges the units before a value that is not outside.
 pub(super) fn acknowledged(fields: SenderFields, value: u8) -> SenderFields
     requires { ahead_by value fields.nn ≤ fields.sent }
     ensures { numbers_of result ≡ after_acknowledge (numbers_of fields) value }

@@ -1,5 +1,5 @@
-// What several tests use: configurations, a comparison that is proved once, and not at each place, and what tests say
-// of growths that are refused, in lines on standard error that tools/refusals reads.
+// Helpers that several tests share: configurations, a comparison that is proved once, and the lines on
+// standard error by which tests report that growths were refused. tools/refusals reads these lines.
 
 use nodes::Parameter;
 use std::alloc::Global;
@@ -7,7 +7,7 @@ use std::fmt::Debug;
 use std::process::Abort;
 use tc_link::Config;
 
-/// Segments of at most this number of octets, in which packets are joined (1) or not (0).
+/// Returns a configuration with segments of at most `part` octets, and with blocking (1) or without (0).
 pub fn with_parts(part: u32, blocking: u32) -> Config {
     Config {
         part,
@@ -16,26 +16,26 @@ pub fn with_parts(part: u32, blocking: u32) -> Config {
     }
 }
 
-/// One parameter has this value, and the others have their default values.
+/// Returns a configuration in which one parameter has this value and the others have their defaults.
 pub fn with_value(parameter: Parameter, value: u32) -> Config {
     let mut config = Config::default();
     config.set(parameter, u64::from(value));
     config
 }
 
-/// Stops the test unless both are equal, and says what they are.
+/// Stops the test and prints both values unless they are equal.
 pub fn equal<A: PartialEq + Debug>(rt: &impl Abort, left: &A, right: &A) {
     assert_eq!(*rt; *left, *right);
 }
 
-/// A growth was refused, by the fault of this number, which is that of want of memory.
+/// Reports a refused growth, and checks that its fault has the number of Memory.
 pub fn says_refused(rt: &(impl Abort + Eprint), number: u8, memory: u8) {
     let _ = eprintln!(rt; "refused a growth");
     equal(rt, &number, &memory);
 }
 
-/// What a call of a node answers. Where it may answer a fault for want of memory, and does, nothing that is seen of the
-/// node has changed, and the call made again answers as ever.
+/// Returns the answer of a node's call. If the answer is `refusal`, the fault of a call out of memory, this
+/// checks that nothing visible of the node has changed, and makes the call again.
 pub fn answer_of<N, S, T, F, Seen, Call>(
     rt: &(impl Abort + Eprint),
     node: &mut N,
@@ -63,7 +63,7 @@ where
     }
 }
 
-/// A growth after all others of a test.
+/// Makes one growth after all others of a test.
 pub fn ends_growths(rt: &(impl Abort + Eprint), alloc: Global) {
     if Vec::<u8>::with_capacity(alloc, 1).is_err() {
         let _ = eprintln!(rt; "refused a growth, the last");

@@ -1,4 +1,5 @@
-// Each call once, over readers and writers of std and such that fail. The octets and the lines are worked by hand.
+// Each call once, over readers and writers of std and over some that fail. The octets and the lines are
+// worked by hand.
 
 ghost use Rattle.std.specs.Prelude.{◌≡◌, [], None, Some};
 ghost use Rattle.listings.specs.Filters.{keeps_frame};
@@ -132,7 +133,8 @@ impl Kept for ThirdChannel {
     ghost keeps = { keeps_frame None (Some 3) };
 }
 
-// A channel, a MAP and a first number: what is of another has no line, and is good.
+// Lists one channel, one MAP, or from a first number. Records of another channel or MAP have no line, and are
+// good.
 #[test]
 fn listings_of_a_part(rt: HostRuntime) {
     lists_a_channel(&rt, rt.alloc());
@@ -214,7 +216,7 @@ fn lists_nowhere(rt: &impl Abort, alloc: Global) {
     equal(rt, &result, &Err(StreamFault::Write));
 }
 
-// Totals of lines whose words two writes part.
+// Counts totals over lines in which a write ends within a word.
 #[test]
 fn totals_of_two_writes(rt: HostRuntime) {
     let mut totals = Totals::new(rt.alloc());
@@ -227,7 +229,8 @@ fn totals_of_two_writes(rt: HostRuntime) {
     equal(&rt, &text.as_bytes(), &lines.as_bytes());
 }
 
-// A reader and a writer that move at most three octets at a call, and fail at the call after this many.
+// A reader and a writer that move at most three octets in a call, and fail in the call after `calls_left`
+// calls.
 #[derive(Drop)]
 struct Device {
     octets: Vec<u8>,
@@ -235,7 +238,7 @@ struct Device {
 }
 
 impl Device {
-    // Whether this call fails.
+    // Returns whether this call fails.
     fn fails(&mut self) -> bool {
         let fails = self.calls_left == 0;
         self.calls_left = self.calls_left.wrapping_sub(1);
@@ -270,7 +273,7 @@ impl Write for Device {
     }
 }
 
-// What the reader or the writer inside answers is answered: how many octets, or its error.
+// The answer is that of the inner reader or writer: the number of octets, or its error.
 #[test]
 fn readers_and_writers_of_std(rt: HostRuntime) {
     let octets = Vec::from_slice(rt.alloc(), b"unlock").expect(&rt, "octets");

@@ -1,4 +1,5 @@
-// How a run of the tool ends, as docs/PROFILE.md has it: the status and the line for each outcome and each fault.
+// How a run of the tool ends, as docs/PROFILE.md defines it: the status and the line for each outcome and
+// each fault.
 
 use super::common::equal;
 use std::alloc::Global;
@@ -45,7 +46,7 @@ fn ends(rt: &impl Abort, alloc: Global, dumped: &Dumped, status: u8, line: &str)
     equal(rt, &written.as_slice(), &line.as_bytes());
 }
 
-// Where standard error is closed, or closes within the line, the status is the same.
+// The status is the same if standard error is closed, or closes within the line.
 #[test]
 fn endings_at_a_closed_sink(rt: HostRuntime) {
     for (dumped, status, line) in &ENDINGS {
@@ -54,7 +55,7 @@ fn endings_at_a_closed_sink(rt: HostRuntime) {
     }
 }
 
-// Into room for no line that is longer. Octets past the line stay.
+// Checks the ending in a buffer, which a longer line fills. Octets after the line do not change.
 fn ends_in(rt: &impl Abort, dumped: &Dumped, status: u8, line: &str, room: &mut [u8]) {
     equal(rt, &ending(dumped, &mut Writer::new(&mut *room)), &status);
     let count = line.len().min(room.len());

@@ -6,7 +6,7 @@ pub const P1: [u8; 7] = [0x10, 0x05, 0xc0, 0x01, 0x00, 0x00, 0xab];
 
 pub const P2: [u8; 7] = [0x10, 0x05, 0xc0, 0x02, 0x00, 0x00, 0xac];
 
-// The octets before a field of seven, those of the field, and those after it.
+// Joins the octets before a field of seven octets, the field, and the octets after it.
 macro_rules! framed {
     ([$($before:expr),*], $field:ident, [$($after:expr),*]) => {
         [
@@ -17,7 +17,8 @@ macro_rules! framed {
     };
 }
 
-// A frame of 15 octets: the first three, after its length the number and the segment header, the packet, the check.
+// Builds a frame of 15 octets: the first three, the length, N(S) and the segment header, the packet, and the
+// FECF.
 macro_rules! tc {
     ([$($first:expr),*], [$($next:expr),*], $packet:ident, [$($check:expr),*]) => {
         framed!([$($first,)* 0x0e, $($next),*], $packet, [$($check),*])
@@ -30,15 +31,15 @@ pub const THREE: [u8; 21] = [
     0xc0, 0x00, 0x00, 0x00, 0xaa,
 ];
 
-/// Type-AD frames with numbers 0 and 1, which carry P0 and P1 on MAP 4, and the second with P0.
+/// Type-AD frames on MAP 4: with N(S) = 0 and P0, with N(S) = 1 and P1, and with N(S) = 1 and P0.
 pub const AD_0: [u8; 15] = tc!([0x00, 0x01, 0x08], [0x00, 0xc4], P0, [0xe7, 0x5d]);
 
 pub const AD_1: [u8; 15] = tc!([0x00, 0x01, 0x08], [0x01, 0xc4], P1, [0x6a, 0xeb]);
 
 pub const AD_1_WITH_P0: [u8; 15] = tc!([0x00, 0x01, 0x08], [0x01, 0xc4], P0, [0x0c, 0x7e]);
 
-/// A Type-AD frame with number 0, which carries P0 and P1, and one with number 1, which carries an octet
-/// that is no packet.
+/// A Type-AD frame with N(S) = 0, which carries P0 and P1, and one with N(S) = 1, which carries one octet
+/// that does not form a packet.
 pub const AD_BOTH: [u8; 22] = [
     0x00, 0x01, 0x08, 0x15, 0x00, 0xc4, 0x10, 0x05, 0xc0, 0x00, 0x00, 0x00, 0xaa, 0x10, 0x05, 0xc0,
     0x01, 0x00, 0x00, 0xab, 0xa2, 0xb0,
@@ -46,7 +47,7 @@ pub const AD_BOTH: [u8; 22] = [
 
 pub const AD_NONE: [u8; 9] = [0x00, 0x01, 0x08, 0x08, 0x01, 0xc4, 0xaa, 0xca, 0x80];
 
-/// Type-AD frames with the parts of P0 on MAP 4, of 3, 3 and 1 octets.
+/// Type-AD frames with the parts of P0 on MAP 4, which have 3, 3 and 1 octets.
 pub const FIRST: [u8; 11] = [
     0x00, 0x01, 0x08, 0x0a, 0x00, 0x44, 0x10, 0x05, 0xc0, 0x8b, 0xb9,
 ];
@@ -66,7 +67,7 @@ pub const BD_FIRST: [u8; 15] = tc!([0x20, 0x01, 0x08], [0x00, 0x44], P1, [0x51, 
 
 pub const BD_NONE: [u8; 9] = [0x20, 0x01, 0x08, 0x08, 0x00, 0xc4, 0xaa, 0x93, 0x46];
 
-/// The commands Unlock and Set V(R) to 9, and Unlock with another check.
+/// The control commands Unlock and Set V(R) to 9, and Unlock with a wrong FECF.
 pub const UNLOCK: [u8; 8] = [0x30, 0x01, 0x08, 0x07, 0x00, 0x00, 0x8b, 0x9e];
 
 pub const SET_9: [u8; 10] = [0x30, 0x01, 0x08, 0x09, 0x00, 0x82, 0x00, 0x09, 0xae, 0xae];
@@ -92,7 +93,8 @@ pub const SET_9_TO_SPACECRAFT_2: [u8; 10] = [
     0x30, 0x02, 0x08, 0x09, 0x00, 0x82, 0x00, 0x09, 0x76, 0x2c,
 ];
 
-// A telemetry frame of 19 octets: its header after the first, its data, what its report expects, and the check.
+// Builds a telemetry frame of 19 octets: the header after its first octet, the data, the report value, and
+// the FECF.
 macro_rules! tm {
     ([$($header:expr),*], $data:ident, $value:expr, $($check:expr),*) => {
         framed!([0x00, $($header),*], $data, [0x01, 0x08, 0x00, $value, $($check),*])
@@ -102,16 +104,16 @@ macro_rules! tm {
 /// The data field of a frame of only idle data.
 pub const IDLE_DATA: [u8; 7] = [0x55; 7];
 
-/// Telemetry frames of 19 octets, whose data field has 7: one with P0, and two of only idle data, of which
-/// the second reports that number 1 is expected.
+/// Telemetry frames of 19 octets, whose data field has 7: one with P0, and two of only idle data. The CLCW of
+/// the last has the report value 1.
 pub const WITH_P0: [u8; 19] = tm!([0x11, 0x00, 0x00, 0x18, 0x00], P0, 0x00, 0x95, 0xd5);
 
 pub const IDLE: [u8; 19] = tm!([0x11, 0x01, 0x01, 0x1f, 0xfe], IDLE_DATA, 0x00, 0x7d, 0xc0);
 
 pub const IDLE_1: [u8; 19] = tm!([0x11, 0x02, 0x02, 0x1f, 0xfe], IDLE_DATA, 0x01, 0x03, 0x67);
 
-/// Frames of another spacecraft and of another virtual channel, each with counts of its own, P1 and a
-/// report that number 1 is expected.
+/// Frames of another spacecraft and of another virtual channel, each with its own counts, P1 and a CLCW with
+/// the report value 1.
 pub const OF_SPACECRAFT_2: [u8; 19] = tm!([0x21, 0x05, 0x09, 0x18, 0x00], P1, 0x01, 0xa8, 0x2c);
 
 pub const OF_CHANNEL_1: [u8; 19] = tm!([0x13, 0x05, 0x09, 0x18, 0x00], P1, 0x01, 0x8d, 0x5b);

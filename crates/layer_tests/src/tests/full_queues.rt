@@ -1,4 +1,4 @@
-// Queues that are full. The fault comes before memory is wanted, so a growth that is refused may not be said.
+// Full queues. The fault is returned before memory is requested, so a test may not report a refused growth.
 
 use super::common::{with_parts, with_value};
 use super::frames::{P0, P1, THREE};

@@ -10,7 +10,7 @@ use std::process::Abort;
 use tc_link::{Config, Event, LinkFault, Reply, Sim, SimFault};
 use tm_link::TmFault;
 
-/// Lets an event happen to a link. It says nothing of it, so the proof of a test has nothing of the link in it.
+/// Lets an event happen to a link. It has no clause, so the link's state is not in the proof of a test.
 pub fn step(sim: &mut Sim, event: Event<'_>) -> Result<Reply, SimFault> {
     sim.step(event)
 }
@@ -39,7 +39,7 @@ fn has_fault(rt: &impl Abort, config: &Config, fault: Option<&str>) {
     equal(rt, &config.fault(), &fault);
 }
 
-// A parameter is found by its name, and takes the most that it may be.
+// Checks that a parameter is found by its name, and takes its highest value.
 fn takes_most(rt: &impl Abort, config: &mut Config, parameter: Parameter) {
     let found = Parameter::named(parameter.name().as_bytes());
     equal(rt, &found, &Some(parameter));

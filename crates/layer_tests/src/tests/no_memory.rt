@@ -1,4 +1,4 @@
-// Calls of the nodes and of the simulated link that take no memory: tools/refusals runs these tests with all
+// Calls of the nodes and of the simulated link that take no memory. tools/refusals runs these tests with all
 // allocations refused after the words 'set up'.
 
 use super::common::{equal, with_value};
@@ -33,7 +33,7 @@ fn says_set_up(rt: &impl Eprint) {
     let _ = eprintln!(rt; "set up");
 }
 
-// A ground that has one packet to send under and one past the sequence control.
+// Returns a ground that has one packet to send in sequence and one by bypass.
 fn ground(rt: &impl Abort, alloc: Global) -> Ground {
     let mut ground = Ground::of(alloc, &valid(rt)).expect(rt, "a ground");
     takes_both(rt, &mut ground);
@@ -59,7 +59,7 @@ fn refuses(rt: &impl Abort, ground: &mut Ground) {
     equal(rt, &window, &Err(CopFault::Window));
 }
 
-// A report that tells the sender nothing new.
+// A CLCW that contains nothing new for the sender.
 const FIRST_HEARD: Heard = Heard::Frame {
     gap: Gap::First,
     packets: 0,
@@ -97,14 +97,14 @@ fn calls_ground(rt: &(impl Abort + Eprint), ground: &mut Ground) {
     pulls(rt, ground, Some(8));
 }
 
-// Its one submission was sent, and a report may say that it is on board.
+// Checks that the one submission was sent, and that a CLCW can show that it is on board.
 fn tells(rt: &impl Abort, ground: &Ground) {
     equal(rt, &(ground.submitted(), ground.sent_whole()), &(1, 1));
     equal(rt, &ground.acknowledged_whole(), &0);
     equal(rt, &ground.known_on_board(1), &Some(1));
 }
 
-// Passes the last frame that goes next.
+// Advances past the last frame.
 fn passes(rt: &impl Abort, ground: &mut Ground) {
     assert!(rt; ground.peek().is_some());
     ground.advance();
@@ -129,7 +129,7 @@ fn directs(rt: &impl Abort, ground: &mut Ground) {
     }
 }
 
-// It goes on, after a session in which nothing was submitted.
+// Resumes after a session in which nothing was submitted.
 fn resumes(rt: &impl Abort, ground: &mut Ground) {
     equal(rt, &ground.resume(9), &Err(LinkFault::NotKnown));
     let terminated = ground.directive(Directive::Terminate);
@@ -154,7 +154,7 @@ fn new_spacecraft(rt: &impl Abort, alloc: Global) -> Spacecraft {
     Spacecraft::of(alloc, &valid(rt)).expect(rt, "a spacecraft")
 }
 
-// It has a packet of each service, and one of telemetry.
+// Gives the spacecraft a packet of each service, and one of telemetry.
 fn fills(rt: &impl Abort, spacecraft: &mut Spacecraft) {
     assert!(rt; spacecraft.receive(&AD_0).is_ok());
     assert!(rt; spacecraft.receive(&BD_0).is_ok());
@@ -191,7 +191,7 @@ fn calls_spacecraft(rt: &(impl Abort + Eprint), spacecraft: &mut Spacecraft) {
     }
 }
 
-// Whether there was a packet of each service.
+// Returns, for each service, whether there was a packet to take.
 fn are_taken(spacecraft: &mut Spacecraft) -> [bool; 2] {
     [
         spacecraft.take().is_some(),
@@ -199,7 +199,7 @@ fn are_taken(spacecraft: &mut Spacecraft) -> [bool; 2] {
     ]
 }
 
-// What is made of a Type-AD frame with this number that is not accepted.
+// Returns the answer to a Type-AD frame with this number that is not accepted.
 fn dropped(n: u8, verdict: Verdict) -> Received {
     Received::Sequence {
         n,
@@ -233,7 +233,7 @@ fn arrives(rt: &(impl Abort + Eprint), spacecraft: &mut Spacecraft) {
     assert!(rt; spacecraft.take().is_some());
 }
 
-// A link with frames on their way in both directions, of which the first up was accepted before.
+// Returns a link with frames in transit in both directions, after others that were accepted.
 fn link(rt: &impl Abort, alloc: Global) -> Sim {
     let mut sim = Sim::new(alloc, config()).expect(rt, "a link");
     for event in &ON_THEIR_WAY {
@@ -263,7 +263,7 @@ static ON_THEIR_WAY: [Event<'static>; 14] = [
     Event::Telemetry(&[0x00, 0x05, 0xc0, 0x00, 0x00, 0x00, 0xaa]),
 ];
 
-// An answer of the link, whose packet is P0 where it has one.
+// An answer of the link. If it has a packet, the packet is P0.
 #[derive(Clone, Copy, Debug, PartialEq, Eq)]
 enum Answer {
     Done,
@@ -275,7 +275,7 @@ enum Answer {
     Down(Heard),
     P0On(u8),
     NothingInTransit,
-    // It is none that this test looks for.
+    // An answer that this test does not expect.
     Other,
 }
 
@@ -313,7 +313,7 @@ const DAMAGED: Answer = Answer::Down(Heard::Invalid(TmFault::Length));
 
 const TERMINATED: Answer = Answer::Alert(Alert::Terminated);
 
-// The frame with number 1 finds no room, since the packet of the first was not taken.
+// There is no room for the frame with N(S) = 1, since the packet of the first frame was not taken.
 const NO_BUFFER: Answer = Answer::Up(Received::Sequence {
     n: 1,
     verdict: Verdict::NoBuffer,
@@ -363,7 +363,7 @@ fn has_no_records(rt: &impl Abort, sim: &Sim) {
     assert!(rt; sim.accepted().is_empty() && sim.acknowledged() == 0);
 }
 
-// Each parameter next to its range, and a window that is too wide for the width.
+// Each parameter just out of range, and a window that is too wide for the width.
 #[test]
 fn judging_a_configuration_takes_no_memory(rt: HostRuntime) {
     says_set_up(&rt);

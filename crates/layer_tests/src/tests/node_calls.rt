@@ -1,6 +1,6 @@
-// Each node by its public calls, and each of its growths refused in turn: a test here says each growth that
-// is refused, and makes one more at its end. No function here says what it does: so the proof of a test has nothing of
-// the node's state in it, and the run compares the answers.
+// Each node by its public calls, with each of its growths refused in turn. A test here reports each refused
+// growth, and makes one more at its end. No function here has a clause, so the node's state is not in the
+// proof of a test; the run compares the answers.
 
 mod failover;
 mod fates;
@@ -22,12 +22,12 @@ pub trait Node<C> {
 
     fn length_of_frames(&self) -> usize;
 
-    /// Makes a call, and compares what it answers. Where memory is refused nothing has changed, and the
-    /// call made again answers as ever.
+    /// Makes a call, and compares its answer. If memory is refused, nothing changes, and the repeated call
+    /// succeeds.
     fn answers(&mut self, rt: &(impl Abort + Eprint), call: &C);
 }
 
-/// A new node answers the calls of these rows so.
+/// Checks that a new node answers the calls of these rows as they state.
 pub fn plays<N: Node<C> + Drop, C>(
     rt: &(impl Abort + Eprint),
     alloc: Global,

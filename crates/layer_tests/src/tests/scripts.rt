@@ -1,5 +1,5 @@
-// Scripts played by hand, and each of their growths refused in turn. What scripts answer stands in rows/sim at
-// the top.
+// Scripts that are run line by line, with each of their growths refused in turn. The rows in rows/sim test
+// what scripts answer.
 
 use super::common::equal;
 use node_lines::{Ask, Line, NodePlayer, read_line};
@@ -9,8 +9,8 @@ use std::alloc::Global;
 use std::process::Abort;
 use streams::{Player, cut, octets_in_word};
 
-// Whether the session had an idle start, and all that the script answers, in a text that grows from this
-// room; nothing where there is no memory.
+// Runs a script, and returns whether its session had an idle start, and all its answers, in a text that grows
+// from `room` octets. Returns None if it runs out of memory.
 fn played(alloc: Global, script: &[u8], room: usize) -> Option<(Option<bool>, String)> {
     let mut player = NodePlayer::<LinkNode>::new();
     let mut text = String::with_capacity(alloc, room).ok()?;
@@ -33,8 +33,8 @@ fn idle_start(player: &NodePlayer<LinkNode>) -> Option<bool> {
     }
 }
 
-// A script is answered so, or its session had such a start. Where memory is refused the script played again
-// answers as ever.
+// Checks the answers of a script, if they are given, and whether its session had an idle start. If memory is
+// refused, the script is run again.
 fn plays(
     rt: &(impl Abort + Eprint),
     alloc: Global,
@@ -60,7 +60,7 @@ fn plays(
     }
 }
 
-// Why a script is not played, of those here.
+// Returns the fault of a script of at most 4,096 octets, if it has one.
 fn fault_in(script: &str) -> Option<ScriptFault> {
     if script.len() > 4096 {
         return None;
@@ -84,21 +84,21 @@ fn scripts_that_are_played(rt: HostRuntime) {
     }
 }
 
-// A stale report confirms a session that did not begin clean.
+// A stale CLCW confirms a session that did not begin clean.
 const A_STALE_REPORT: &str = "init none\nreport\nsubmit 4 1005C0000000AA\nsend\nup deliver\n\
     terminate\ninit set 0\nsend\nup lose\ndown deliver\nsubmit 4 1005C0000000AA\nsend\nup deliver\n\
     report\ndown deliver\n";
 
-// Reports are on their way as the session begins, two of them with another FARM-B. Each has the value and the
-// flags that the receiver would report.
+// CLCWs are in transit when the session begins, two of them with another FARM-B. Each has the report value
+// and the flags of the receiver's current state.
 const FOUR_REPORTS_ON_THEIR_WAY: &str = "report\nreport\nbypass 4 1005C0000000AA\nsend\n\
     up deliver\nreport\nreport\ninit check\ndown deliver\ndown deliver\ndown deliver\ndown deliver\n";
 
-// An old report differs in its retransmit flag alone from what the receiver would report.
+// An old CLCW differs from the receiver's current one only in its Retransmit flag.
 const AN_OLD_FLAG: &str = "init none\nreport\nsubmit 4 1005C0000000AA\nsubmit 4 1005C0010000AB\n\
     send\nsend\nup lose\nup deliver\nterminate\nvs 0\ninit check\ndown deliver\nreport\ndown deliver\n";
 
-// One frame of three is accepted, and a report on it is on its way when the next session begins.
+// One frame of three is accepted, and a CLCW that shows it is in transit when the next session begins.
 const ONE_OF_THREE_ACCEPTED: &str =
     "config limit 1\nconfig timer 1\ninit check\nreport\ndown deliver\n\
     submit 4 1005C0000000AA\nsubmit 4 1005C0010000AB\nsubmit 4 1005C0020000AC\nsend\nsend\nsend\n\
@@ -118,7 +118,7 @@ fn idle_starts(rt: HostRuntime) {
     }
 }
 
-// Lines one by one, and scripts that are not played: no memory is wanted to say so.
+// Single lines, and scripts that are not run. No memory is needed to find their faults.
 #[test]
 fn lines_that_are_read(rt: HostRuntime) {
     reads_lines(&rt);

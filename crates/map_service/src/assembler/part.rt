@@ -18,10 +18,10 @@ use crate::packets::fault_of_one;
 use std::alloc::Global;
 use tc_frame::Segment;
 
-/// What an assembler answers to a segment whose own octets hold no packet that is handed out.
+/// What an assembler returns for a segment whose own octets contain no packet to deliver.
 #[derive(Drop)]
 pub struct TakenPart {
-    /// What was dropped, where anything was: the later of two.
+    /// What was dropped, if anything: the later of two.
     pub dropped: Option<Dropped>,
     /// The octets of the packet whose part the segment ended.
     pub packet: Option<Vec<u8>>,
@@ -31,8 +31,8 @@ impl Assembler {
     ghost use Rattle.tc_frame.specs.Layout.{SegmentView};
     ghost use Rattle.map_service.specs.Exactness.{step_at, after_step, HasPartsOf, IsTakenExactly};
 
-    /// Takes a segment for which `hands_out` is false, as `take` does: at most one packet is whole with
-    /// it, that of the part which it ends. At a fault the assembler is as it was.
+    /// Takes a segment for which `hands_out` is false, as `take` does. It completes at most one packet, whose
+    /// part it ends. On a fault the assembler is unchanged.
     /// Faults: 3 Memory. Memory: yes; none where the segment is dropped at once, or continues a part.
     /// Cost: n and the open part.
     #[inline(always)]
@@ -47,7 +47,7 @@ impl Assembler {
         ensures fault { IfErr result (λ e. e ≡ MapFault.Memory) }
         ensures none { IsSureAtOnce (step_at self.old (segment_view segment.now)) result }
 
-        // Exact assembly, whichever segments led here.
+        // Exact assembly, whichever segments came before.
         ensures exact { IfOk result (λ t. (segments : List SegmentView)
             → HasPartsOf self.old segments
             → IsTakenExactly
@@ -102,7 +102,7 @@ fn taken(
     Ok((dropped, None))
 }
 
-// No part is open on the MAP any more.
+// No part is open on the MAP afterwards.
 #[inline(always)]
 fn close(limits: &Limits, parts: &mut Vec<Option<Vec<u8>>>, map: u8, octets: &[u8])
     requires open { is_open limits.now map ≡ true }
@@ -113,7 +113,7 @@ fn close(limits: &Limits, parts: &mut Vec<Option<Vec<u8>>>, map: u8, octets: &[u
     put_on(limits, parts, map, Change::Closed, octets);
 }
 
-// These octets are the part that is open on the MAP.
+// These octets become the open part on the MAP.
 #[inline(always)]
 fn begin(
     alloc: Global,
@@ -140,7 +140,7 @@ fn begin(
     Ok(())
 }
 
-// These octets are added to the part that is open on the MAP.
+// These octets are added to the open part on the MAP.
 #[inline(always)]
 fn add(limits: &Limits, parts: &mut Vec<Option<Vec<u8>>>, map: u8, octets: &[u8])
     requires open { is_open limits.now map ≡ true }
@@ -153,7 +153,8 @@ fn add(limits: &Limits, parts: &mut Vec<Option<Vec<u8>>>, map: u8, octets: &[u8]
     put_on(limits, parts, map, Change::Grown, octets);
 }
 
-// These octets end the part that is open on the MAP: what is dropped, or the packet that both are.
+// These octets end the open part on the MAP. The answer is what is dropped, or the packet that the part and
+// the octets form.
 #[inline(always)]
 fn end(
     alloc: Global,

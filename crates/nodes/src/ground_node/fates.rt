@@ -1,4 +1,4 @@
-// How far the submissions of a session have come.
+// The progress of a session's submissions.
 
 ghost use Rattle.std.specs.Prelude.{◌≡◌, ◌≤◌};
 ghost use Rattle.std.specs.VecDeque.{deque_capacity};
@@ -14,8 +14,8 @@ impl Ground {
     ghost use Rattle.nodes.specs.Fates.{submitted, whole_with};
     ghost use Rattle.nodes.specs.Ground.{ground_step, Resume, sent_beyond, known_on_board};
 
-    /// How many submissions the session has; they are numbered from 0, in order. The number counts modulo
-    /// 2^64. It stands after an alert too, and is 0 once V(S) is set (CCSDS 232.1-B-2, 5.1); so it is with
+    /// Returns the number of the session's submissions, modulo 2^64. They are numbered from 0, in order. The
+    /// number stays after an alert, and is 0 once V(S) is set (CCSDS 232.1-B-2, 5.1). The same holds for
     /// `sent_whole` and `acknowledged_whole`. It takes no memory.
     pub fn submitted(&self) -> u64
         ensures { result ≡ submitted self.now.fates }
@@ -23,28 +23,30 @@ impl Ground {
         self.acknowledged.wrapping_add(self.left.len() as u64)
     }
 
-    /// How many of the session's submissions were sent whole, each to its last segment: the first ones. It
-    /// takes no memory. Cost: the number of segments that were sent and are not acknowledged, 127 at most.
+    /// Returns how many of the session's submissions, from the first, were sent whole, each to its last
+    /// segment. It takes no memory.
+    /// Cost: the number of segments that were sent and are not acknowledged, 127 at most.
     pub fn sent_whole(&self) -> u64
         ensures { result ≡ whole_with (sent_beyond self.now) self.now.fates }
     {
         self.whole_with(self.vs().wrapping_sub(self.nn()))
     }
 
-    /// How many of the session's submissions are acknowledged whole, so that they are on board: the first
-    /// ones. It takes no memory.
+    /// Returns how many of the session's submissions, from the first, are acknowledged whole and so on
+    /// board. It takes no memory.
     pub fn acknowledged_whole(&self) -> u64
         ensures { result ≡ whole_with 0 self.now.fates }
     {
         self.acknowledged
     }
 
-    /// How many of the session's submissions are known to be on board whole by a report of this value, the
-    /// first ones: those that are acknowledged, and those all of whose segments the report says were
-    /// accepted. After an alert too (CCSDS 232.1-B-2, 5.1). None where nothing is known:
-    /// - no session has begun, or V(S) was set since;
-    /// - an alert came since that shows a broken condition (`Alert::shows_a_broken_condition`);
-    /// - V(S) is not NN(R), and the value does not lie from NN(R) to V(S).
+    /// Returns how many of the session's submissions, from the first, are known to be on board whole from a
+    /// CLCW with this value. They are those that are acknowledged, and those whose segments were all
+    /// accepted according to the CLCW. It can be called after an alert too (CCSDS 232.1-B-2, 5.1). Returns
+    /// None if nothing is known:
+    /// - no session has begun, or V(S) has been set since;
+    /// - an alert has since shown a broken condition (`Alert::shows_a_broken_condition`);
+    /// - V(S) is not NN(R), and the value is not between NN(R) and V(S).
     /// It takes no memory. Cost: as `sent_whole`.
     pub fn known_on_board(&self, value: u8) -> Option<u64>
         ensures { result ≡ known_on_board self.now value }
@@ -56,16 +58,17 @@ impl Ground {
         Some(self.whole_with(accepted))
     }
 
-    /// Begins the next session after an alert, from where the last one has got to: sets V(S) to the value of
-    /// a report that was made when nothing was on its way up, and begins by Unlock (CCSDS 232.1-B-2, 5.2.4).
-    /// Returns how many submissions of the session that ended are on board whole, modulo 2^64: the first
-    /// ones, counted within that session; those after them are to be submitted again. A submission of more
-    /// octets than a segment takes (`part`) that holds several packets is whole only with its last one, so
-    /// that some of its packets may be on board before, and come again. Refuses by 10, and changes nothing,
-    /// where the sender is not in S6, and where nothing is known:
-    /// - no session has begun, or V(S) was set since;
-    /// - an alert came since that shows a broken condition (`Alert::shows_a_broken_condition`);
-    /// - V(S) is not NN(R), and the value does not lie from NN(R) to V(S).
+    /// Begins the next session after an alert, from the point that the last session reached. It sets V(S) to
+    /// the value, and begins with Unlock (CCSDS 232.1-B-2, 5.2.4). The value must come from a CLCW that was
+    /// made when nothing was in transit on the uplink. Returns how many submissions of the session that
+    /// ended are on board whole, modulo 2^64, counted from the first of that session. The program must
+    /// resubmit the later ones. A submission that contains several packets and more octets than a segment
+    /// (`part`) is whole only with its last packet. Some of its packets may then be on board already, and are
+    /// repeated when it is resubmitted. Refuses 10 `NotKnown`, and changes nothing, if the sender is not in
+    /// S6 or nothing is known:
+    /// - no session has begun, or V(S) has been set since;
+    /// - an alert has since shown a broken condition (`Alert::shows_a_broken_condition`);
+    /// - V(S) is not NN(R), and the value is not between NN(R) and V(S).
     /// Faults: 10 NotKnown. Cost: as `sent_whole`.
     pub fn resume(&mut self, value: u8) -> Result<u64, LinkFault>
         ensures answer { result ≡ (ground_step self.old (Resume value)).answer }
@@ -83,7 +86,7 @@ impl Ground {
         Ok(whole)
     }
 
-    // How many submissions are whole with so many segments beyond those acknowledged.
+    // Returns how many submissions are whole with this many segments beyond the acknowledged ones.
     fn whole_with(&self, segments: u8) -> u64
         ensures { result ≡ whole_with segments self.now.fates }
     {
@@ -92,7 +95,7 @@ impl Ground {
     }
 }
 
-// Counts the submissions anew where a directive that is obeyed begins a session, or sets V(S).
+// Counts the submissions from 0 again if a directive that was executed begins a session or sets V(S).
 pub(super) fn count_anew(
     directive: Directive,
     acknowledged: &mut u64,
@@ -111,7 +114,8 @@ pub(super) fn count_anew(
     *kept = kept_now;
 }
 
-// Whether V(S) and NN(R) are a session's once a directive is obeyed. None for one that leaves them.
+// Returns whether V(S) and NN(R) are those of a session after a directive, or None if the directive leaves
+// the counts.
 fn kept_after(directive: Directive) -> Option<bool>
     ensures { result ≡ kept_after directive }
 {
@@ -125,7 +129,7 @@ fn kept_after(directive: Directive) -> Option<bool>
     }
 }
 
-// How many first submissions are whole with so many segments more.
+// Returns how many submissions, from the oldest, are whole with this many more segments.
 fn whole_within(left: &VecDeque<usize>, segments: u8) -> usize
     ensures { result ≡ whole_within segments left.now.items }
 {
@@ -142,7 +146,7 @@ fn whole_within(left: &VecDeque<usize>, segments: u8) -> usize
     whole
 }
 
-// How many segments a submission needs that lacks so many: at least one.
+// Returns how many segments complete a submission that lacks this many: at least one.
 pub(super) fn needed(segments: usize) -> usize
     ensures least { 1 ≤ result }
     ensures covers { segments ≤ result }
@@ -152,7 +156,7 @@ pub(super) fn needed(segments: usize) -> usize
     if segments == 0 { 1 } else { segments }
 }
 
-// Takes segments from the oldest submissions, and says how many submissions are whole with them.
+// Takes segments from the oldest submissions, and returns how many submissions become whole.
 pub(super) fn take_segments(left: &mut VecDeque<usize>, segments: u8) -> usize
     ensures whole { result ≡ whole_within segments left.old.items }
     ensures left { left.new.items ≡ left_after segments left.old.items }
@@ -167,7 +171,7 @@ pub(super) fn take_segments(left: &mut VecDeque<usize>, segments: u8) -> usize
     before - left.len()
 }
 
-// Takes one segment from the oldest submission, which leaves with its last.
+// Takes one segment from the oldest submission, and removes the submission with its last segment.
 fn take_one(left: &mut VecDeque<usize>)
     ensures left { left.new.items ≡ without_one left.old.items }
     ensures capacity { deque_capacity left.new ≡ deque_capacity left.old }

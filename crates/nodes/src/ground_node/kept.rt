@@ -1,4 +1,4 @@
-// What is kept of a ground, and a ground that goes on with it.
+// The record that is kept of a ground, and the ground that is opened with it.
 
 ghost use Rattle.std.specs.Prelude.{◌≡◌, ◌↔◌, ◌≤◌, ◌+◌, ◌++◌, take, drop, length, IsTrue, IfOk};
 ghost use Rattle.std.specs.VecDeque.{deque_capacity};
@@ -14,8 +14,8 @@ use std::alloc::{AllocError, Global};
 use std::collections::VecDeque;
 use tm_link::Extractor;
 
-/// What is kept of a ground, so that another goes on where it was lost: V(S), NN(R) (CCSDS 232.1-B-2, 5.1)
-/// and the account of the submissions that were sent whole.
+/// The record that is kept of a ground, so that another can take over if the ground is lost. It contains
+/// V(S), NN(R) (CCSDS 232.1-B-2, 5.1) and the bookkeeping of the submissions that were sent whole.
 #[derive(Clone, Copy)]
 pub struct KeptGround {
     /// How many submissions are acknowledged whole, modulo 2^64.
@@ -24,18 +24,19 @@ pub struct KeptGround {
     pub vs: u8,
     /// NN(R), the number that the spacecraft was last known to expect.
     pub nn: u8,
-    /// Whether V(S) and NN(R) are a session's, and no alert has shown that a condition is broken.
+    /// Whether V(S) and NN(R) are those of a session, and no alert has shown a broken condition.
     pub known: bool,
-    /// How many submissions more were sent whole, 0 to 127.
+    /// How many further submissions were sent whole, 0 to 127.
     pub whole: u8,
-    /// How many segments of each of these are not acknowledged, the oldest first; and then zeros.
+    /// For each of these further submissions, how many segments are not acknowledged, the oldest first. The
+    /// other elements are 0.
     pub segments: [u8; 127],
 }
 
 impl KeptGround {
     ghost use Rattle.nodes.specs.KeptGround.{IsKept};
 
-    // Whether a ground of this configuration gives this record.
+    // Returns whether a ground with this configuration could have returned this record.
     fn is_of(&self, config: &Config) -> bool
         ensures { IsTrue result ↔ IsKept config.now self.now }
     {
@@ -54,7 +55,7 @@ impl KeptGround {
     }
 }
 
-// Whether all of these submissions, of which each has so many segments, are whole with the units sent.
+// Returns whether the sent units complete all submissions with these numbers of segments.
 fn are_whole(segments: &[u8], sent: u8) -> bool
     ensures { IsTrue result ↔ whole_within sent segments.now ≡ length segments.now }
 {
@@ -69,7 +70,7 @@ fn are_whole(segments: &[u8], sent: u8) -> bool
     true
 }
 
-// Whether two records have the same in their places from one on.
+// Returns whether two records are equal from one index on.
 fn are_same(one: &[u8], other: &[u8], from: usize) -> bool
     requires one { from ≤ length one.now }
     requires other { from ≤ length other.now }
@@ -89,21 +90,22 @@ impl Ground {
     ghost use Rattle.cop1.specs.Modulo.{ahead_by};
     ghost use Rattle.nodes.specs.KeptGround.{IsKept, kept_of, opened_at};
 
-    /// What is kept of this ground, in one record of fixed size. A program stores it after each call, before
-    /// the frame is sent that the call gave; where the ground is lost, `open_at` opens another at it. Of
-    /// submissions that were not sent whole nothing is kept, nor of bypass packets, of telemetry, and of what
-    /// directives set.
+    /// Returns what is kept of this ground, in one record of fixed size. A program stores the record after
+    /// each call, before it sends the frame that the call returned. If the ground is lost, `open_at` opens
+    /// another ground with the record. The record does not contain submissions that were not sent whole,
+    /// bypass packets, telemetry, or what directives set.
     /// Cost: as `sent_whole`.
     pub fn kept(&self) -> KeptGround
         ensures kept { result ≡ kept_of self.now }
 
-        // So `open_at` takes it, of this configuration.
+        // So `open_at` accepts the record under this configuration.
         ensures taken { IsKept self.now.config result }
     {
         self.record()
     }
 
-    // V(S) is above NN(R) by no more than the units that may be sent and not acknowledged.
+    // Returns the record. V(S) is above NN(R) by at most the number of units that may be sent and not
+    // acknowledged.
     fn record(&self) -> KeptGround
         ensures kept { result ≡ kept_of self.now }
         ensures apart { ahead_by self.now.fop.vs self.now.fop.nn ≤ self.now.config.width / 2 }
@@ -120,11 +122,12 @@ impl Ground {
         }
     }
 
-    /// A ground that goes on where another was lost, in S6, at the record that `kept` gave: with its V(S),
-    /// its NN(R) and its account of submissions. It is the other after `Terminate` and `forget_telemetry`,
-    /// without bypass packets and telemetry that waits, and with the window, the limit and the timer of the
-    /// configuration; so `resume` begins the next session, as after an alert. The first that applies: 10
-    /// `NotKnown` (the record is none that a ground of this configuration gives), 6 `Memory`.
+    /// Opens a ground that takes over from a lost one, with the record that the lost one's `kept` returned.
+    /// The ground is in S6, and has the record's V(S), NN(R) and bookkeeping of submissions. It equals the
+    /// lost ground after `Terminate` and `forget_telemetry`, except for the following. It has no bypass
+    /// packets and no waiting telemetry, and its transmission count is 1. Its window, limit and timer are
+    /// those of the configuration. So `resume` begins the next session, as after an alert. Refuses 10
+    /// `NotKnown` if no ground with this configuration can have returned the record, then 6 `Memory`.
     /// Faults: 10 NotKnown, 6 Memory. Memory: yes.
     pub fn open_at(
         alloc: Global,
@@ -135,7 +138,7 @@ impl Ground {
         ensures taken { IsKept valid.now kept.now → IsOkUnless result LinkFault.Memory }
         ensures refused { (IsKept valid.now kept.now → ⊥) → result ≡ Err LinkFault.NotKnown }
 
-        // So no record is taken but such as a ground gives: the one that it opens does.
+        // So only records that a ground can return are accepted: the opened ground returns this one.
         ensures same { IfOk result (λ g. kept_of g ≡ kept.now) }
     {
         let config = valid.config();
@@ -178,8 +181,8 @@ impl Ground {
     }
 }
 
-// Writes how many segments each of the first submissions has that are whole with the units sent, and says
-// how many these are.
+// Writes the number of segments of each submission, from the oldest, that the sent units complete. Returns
+// how many submissions these are.
 fn put_whole(left: &VecDeque<usize>, sent: u8, out: &mut [u8; 127]) -> u8
     requires most { sent ≤ 127 }
     ensures count { result ≡ whole_within sent left.now.items }
@@ -199,8 +202,8 @@ fn put_whole(left: &VecDeque<usize>, sent: u8, out: &mut [u8; 127]) -> u8
     whole as u8
 }
 
-// The submissions of a record, with room for as many more as may wait or be sent: each has a segment among
-// those that may wait, or those that may be sent, of which there are 127 at most.
+// Returns the submissions of a record, with room for as many as may wait or be sent. Each submission has a
+// segment among those that may wait or those that may be sent; at most 127 may be sent.
 fn left_of(alloc: Global, kept: &KeptGround, slots: usize) -> Result<VecDeque<usize>, AllocError>
     requires slots { slots ≤ 65535 }
     requires whole { kept.now.whole ≤ 127 }

@@ -1,4 +1,4 @@
-// What goes to the spacecraft next.
+// The next frame for the spacecraft.
 
 ghost use Rattle.std.specs.Prelude.{◌≡◌, true, Some};
 ghost use Rattle.tc_frame.specs.Layout.{frame_view};
@@ -13,8 +13,8 @@ impl Ground {
     ghost use Rattle.std.specs.Prelude.{option_map, IfSome};
     ghost use Rattle.nodes.specs.Ground.{ground_step, Pull};
 
-    /// The frame that goes on the link next, its data lent (CCSDS 232.0-B-4, 4.1): a control command, a
-    /// segment past the sequence control, or a segment with its number N(S). The ground stays as it is.
+    /// Lends the next frame to be sent (CCSDS 232.0-B-4, 4.1): a control command, a bypass segment
+    /// (Type-BD), or a segment with its number N(S). The ground does not change.
     pub fn peek(&self) -> Option<TcFrame<'_>>
         ensures frame { option_map frame_view result ≡ (ground_step self.now Pull).answer }
         ensures fits { IfSome result (λ f. frame_fits Check.On (frame_view f) ≡ true) }
@@ -37,16 +37,16 @@ impl Ground {
         })
     }
 
-    /// Takes the frame that goes on the link next: writes it, with its FECF, at the beginning of
-    /// `out`, and says how many octets it has (CCSDS 232.0-B-4, 4.1). Octets past it stay, and all
-    /// where there is none.
+    /// Takes the next frame to be sent, and writes it with its FECF at the beginning of `out` (CCSDS
+    /// 232.0-B-4, 4.1). Returns the length of the frame in octets, or None if there is no frame. The
+    /// other octets of `out` do not change.
     /// Cost: n.
     pub fn pull(&mut self, out: &mut [u8; 1024]) -> Option<usize>
         ensures count { result ≡ size_of (ground_step self.old Pull).answer }
         ensures frame { out.new ≡ written_over out.old (ground_step self.old Pull).answer }
         ensures after { self.new ≡ (ground_step self.old Pull).after }
 
-        // So the octets are this frame.
+        // So the octets encode this frame.
         ensures spells { BeginsWith out.new (ground_step self.old Pull).answer }
     {
         let count = match self.peek() {
@@ -57,7 +57,7 @@ impl Ground {
         count
     }
 
-    /// Counts the frame that goes on the link next as sent, as `pull` does; `peek` lends it.
+    /// Counts the frame that `peek` lends as sent, as `pull` does.
     pub fn advance(&mut self)
         ensures { self.new ≡ (ground_step self.old Pull).after }
     {
@@ -66,7 +66,7 @@ impl Ground {
     }
 }
 
-// Writes a frame, with its check, at the beginning of `out`, and says how many octets it has.
+// Writes a frame with its FECF at the beginning of `out`, and returns its length in octets.
 fn written(frame: &TcFrame<'_>, out: &mut [u8; 1024]) -> usize
     requires { frame_fits Check.On (frame_view frame.now) ≡ true }
     ensures count { Some result ≡ size_of (Some (frame_view frame.now)) }

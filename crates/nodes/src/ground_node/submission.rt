@@ -1,4 +1,4 @@
-// Packets that are to be submitted, cut before anything changes.
+// A prepared submission: packets to be submitted, already cut into segments.
 
 ghost use Rattle.std.specs.Prelude.{◌≡◌};
 ghost use Rattle.nodes.specs.CommandPackets.{slices_view};
@@ -19,7 +19,7 @@ impl Segments {
     ghost use Rattle.std.specs.Prelude.{length};
     ghost use Rattle.nodes.specs.Submissions.{segments_held};
 
-    // How many there are.
+    // Returns the number of segments.
     pub(crate) fn count(&self) -> usize
         ensures { result ≡ length (segments_held self.now) }
     {
@@ -30,8 +30,8 @@ impl Segments {
     }
 }
 
-/// Packets that are to be submitted on a MAP and their segments, with all the memory that these need:
-/// `Ground::prepare` makes it, and `Ground::commit` takes it.
+/// Packets to be submitted on a MAP, and their segments, with all the memory that these need.
+/// `Ground::prepare` returns it, and `Ground::commit` consumes it.
 #[derive(Drop)]
 pub struct Submission<'a> {
     pub(crate) map: u8,
@@ -41,7 +41,7 @@ pub struct Submission<'a> {
 }
 
 impl<'a> Submission<'a> {
-    /// The packets, in order, each as its octets.
+    /// Returns the packets, in order, each as its octets.
     pub fn packets(&self) -> &[&'a [u8]]
         ensures { slices_view result.now ≡ packets_held self.now.packets }
     {

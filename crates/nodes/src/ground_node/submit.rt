@@ -1,4 +1,4 @@
-// Packets to be sent.
+// Submission of packets.
 
 use super::Ground;
 use super::submission::{Segments, Submission};
@@ -20,14 +20,13 @@ impl Ground {
     ghost use Rattle.nodes.specs.Parameters.{limits_of};
     ghost use Rattle.nodes.specs.Submissions.{IsSubmissionAt, segments_held};
 
-    /// Submits command packets on a MAP, to be sent under sequence control: exactly one packet, or
-    /// with blocking one or more, one after another (CCSDS 232.0-B-4, 4.3). It is `prepare` and then
-    /// `commit`. The first that applies:
-    /// 1 `NotOpen` (in S6), 2 `ClosedMap`, 3 `NotCommand`, 4 `TooLong`, 5 `QueueFull` (more
-    /// segments than the queue slots would wait to be sent), 6 `Memory`; and then the ground is as
-    /// it was. It is the submission of this session with the number that `submitted` returned before; that
-    /// `resume` delivers each packet once is promised of submissions that are one packet, or packets that fit
-    /// into one segment (`part` octets) together.
+    /// Submits command packets on a MAP, to be sent under sequence control: exactly one packet or, with
+    /// blocking, one or more without a gap (CCSDS 232.0-B-4, 4.3). The call does what `prepare` and then
+    /// `commit` do. The number of the submission in this session is what `submitted` returned before. The
+    /// promise that `resume` delivers each packet once covers submissions that are one packet, or packets
+    /// that fit into one segment (`part` octets) together. Refuses the first fault that applies, and
+    /// changes nothing then: 1 `NotOpen` (in S6), 2 `ClosedMap`, 3 `NotCommand`, 4 `TooLong`, 5 `QueueFull`
+    /// (more segments than the queue slots would wait to be sent), 6 `Memory`.
     /// Faults: 1 NotOpen, 2 ClosedMap, 3 NotCommand, 4 TooLong, 5 QueueFull, 6 Memory. Memory: yes.
     /// Cost: n.
     pub fn submit(&mut self, map: u8, octets: &[u8]) -> Result<(), LinkFault>
@@ -39,8 +38,8 @@ impl Ground {
         Ok(())
     }
 
-    /// Judges and cuts the packets that are to be submitted, and takes the memory that this needs.
-    /// Nothing changes. Refuses as `submit` does, in the same order.
+    /// Checks and cuts packets for a submission, and allocates the memory that `commit` needs. The ground
+    /// does not change. Refuses what `submit` refuses, in the same order.
     /// Faults: 1 NotOpen, 2 ClosedMap, 3 NotCommand, 4 TooLong, 5 QueueFull, 6 Memory. Memory: yes.
     /// Cost: n.
     pub fn prepare<'a>(&self, map: u8, octets: &'a [u8]) -> Result<Submission<'a>, LinkFault>
@@ -74,7 +73,7 @@ impl Ground {
         })
     }
 
-    /// Takes the packets that were prepared; the ground must be as it was then.
+    /// Submits the packets that were prepared. The ground must be as it was at `prepare`.
     /// Cost: the number of segments.
     pub fn commit(&mut self, submission: Submission<'_>)
         requires { IsSubmissionAt self.old submission }
@@ -94,7 +93,8 @@ impl Ground {
         self.refill();
     }
 
-    // The segments of packets, copied. None where they have no place in the queue, or no memory.
+    // Returns the segments of packets, copied. Returns None if they do not fit into the queue, or if
+    // memory runs out.
     fn segments_of(&self, map: u8, octets: &[u8]) -> Option<Segments>
         requires map { map < 64 }
         requires commands { commands_fault (limits_of self.now.config) octets.now ≡ None }
@@ -124,7 +124,7 @@ impl Ground {
         }
     }
 
-    // Whether as many segments more have a place in the queue.
+    // Returns whether this many more segments fit into the queue.
     fn has_places(&self, more: usize) -> bool
         ensures { result ≡ not (nat_lt self.now.config.queue_slots
             (length (unsent_segments self.now) + more)) }
@@ -134,7 +134,7 @@ impl Ground {
         more <= slots && unsent + more <= slots
     }
 
-    // What packets lack that could not be cut: 5 `QueueFull`, places in the queue, or else 6 `Memory`.
+    // Returns why packets could not be cut: 5 `QueueFull` if the queue slots do not suffice, else 6 `Memory`.
     fn lack_of(&self, octets: &[u8]) -> LinkFault
         requires { commands_fault (limits_of self.now.config) octets.now ≡ None }
         ensures { (m : ℕ) → result
@@ -146,10 +146,9 @@ impl Ground {
         }
     }
 
-    /// Submits one command packet on a MAP, to be sent past the sequence control, in any state
-    /// (CCSDS 232.0-B-4, 4.3). The first that applies: 2 `ClosedMap`, 3 `NotCommand`, 4 `TooLong`
-    /// (longer than a packet or than a segment may be), 5 `QueueFull`, 6 `Memory`; and then the
-    /// ground is as it was.
+    /// Submits one command packet on a MAP, to be sent by bypass (Type-BD), in any state (CCSDS 232.0-B-4,
+    /// 4.3). Refuses the first fault that applies, and changes nothing then: 2 `ClosedMap`, 3 `NotCommand`,
+    /// 4 `TooLong` (longer than a packet or a segment may be), 5 `QueueFull`, 6 `Memory`.
     /// Faults: 2 ClosedMap, 3 NotCommand, 4 TooLong, 5 QueueFull, 6 Memory. Memory: yes. Cost: n.
     pub fn bypass(&mut self, map: u8, octets: &[u8]) -> Result<(), LinkFault>
         ensures { Submits (bypass_fault self.old map octets.now)
@@ -163,7 +162,7 @@ impl Ground {
         Ok(())
     }
 
-    // The segment that one command packet is.
+    // Returns one command packet as a segment flagged alone.
     fn bypass_segment<'a>(&self, map: u8, octets: &'a [u8]) -> Result<Segment<'a>, LinkFault>
         ensures ok { IfOk result (λ s. segment_view s ≡ segment_with Alone map octets.now) }
         ensures passed { IfOk result (λ _. bypass_fault self.now map octets.now ≡ None) }

@@ -1,4 +1,4 @@
-// What comes from the spacecraft.
+// Telemetry frames and CLCWs from the spacecraft.
 
 ghost use Rattle.std.specs.Prelude.{◌≡◌, ◌&&◌, not, None};
 ghost use Rattle.nodes.specs.Fates.{shows_one};
@@ -20,17 +20,16 @@ impl Ground {
     ghost use Rattle.nodes.specs.Ground.{is_own_telemetry, after_extraction, FinishesNothing};
     ghost use Rattle.nodes.specs.Steps.{TakesStep};
 
-    /// Takes octets that came from the spacecraft: exactly one telemetry frame (CCSDS 132.0-B-3, 4.1).
-    /// The packets that it finishes wait to be taken, and the report that it carries goes to the sender
-    /// where it is of this virtual channel. All growths are made first: at a fault the ground is as it
-    /// was.
+    /// Accepts octets from the spacecraft: exactly one telemetry frame (CCSDS 132.0-B-3, 4.1). The packets
+    /// that the frame finishes wait to be taken. Its CLCW goes to the sender if it is of this virtual
+    /// channel. All memory is allocated first: at a fault the ground is unchanged.
     /// Faults: 6 Memory. Memory: only where a packet is finished. Cost: n, the packets finished and the
     /// segments released.
     pub fn telemetry(&mut self, octets: &[u8]) -> Result<Heard, LinkFault>
         ensures step { TakesStep (ground_step self.old (Telemetry octets.now)) self.old self.new result }
 
-        // It takes no memory for octets that are no frame, nor for a frame of another spacecraft or
-        // virtual channel, nor for one that finishes no packet.
+        // It takes no memory if the octets do not form a valid frame, if the frame is of another channel
+        // or spacecraft, or if it finishes no packet.
         ensures none { FinishesNothing self.old (frame_at self.old.config.frame_length octets.now)
             → IsOk result }
     {
@@ -51,10 +50,10 @@ impl Ground {
         })
     }
 
-    /// Takes a report that came by itself, without a telemetry frame: a CLCW as a front end hands it
-    /// on (CCSDS 232.0-B-4, 4.2.1). It goes to the sender where it is of this virtual channel, as the
-    /// report that a telemetry frame carries does; telemetry is not touched. The last one may be handed on
-    /// again before the next, which changes nothing; an older one may not come again as if it were new.
+    /// Accepts a CLCW without a telemetry frame, as a front end forwards it (CCSDS 232.0-B-4, 4.2.1). The
+    /// CLCW goes to the sender if it is of this virtual channel, like the CLCW of a telemetry frame.
+    /// Telemetry is not affected. A front end may repeat the last CLCW until the next one; that changes
+    /// nothing. It must not repeat an older CLCW as if it were new.
     /// Cost: the number of segments released.
     pub fn clcw(&mut self, octets: [u8; 4]) -> HeardClcw
         ensures answer { result ≡ (ground_step self.old (ControlWord octets)).answer }
@@ -63,16 +62,16 @@ impl Ground {
         self.report(clcw::decode(octets))
     }
 
-    /// Begins to take packets out of telemetry anew, as where a spacecraft was restarted, whose counts go
-    /// on elsewhere: a packet that is not finished is dropped, and the next frame is the first (CCSDS
-    /// 132.0-B-3, 4.3.2). Packets that wait to be taken stay.
+    /// Resets the extraction of packets from telemetry, for example after a spacecraft was restarted and its
+    /// frame counts have jumped. An unfinished packet is dropped, and the next frame counts as the first
+    /// (CCSDS 132.0-B-3, 4.3.2). Packets that wait to be taken stay.
     pub fn forget_telemetry(&mut self)
         ensures { self.new ≡ (ground_step self.old ForgetTelemetry).after }
     {
         self.extractor.forget();
     }
 
-    // Hands a report on to the sender where it is of this virtual channel.
+    // Passes a CLCW to the sender if it is of this virtual channel.
     fn report(&mut self, word: Result<Clcw, ClcwFault>) -> HeardClcw
         ensures answer { result ≡ (report_outcome self.old word).answer }
         ensures after { self.new ≡ (report_outcome self.old word).after }
@@ -102,8 +101,8 @@ impl Ground {
         u32::from(frame.scid) == self.config.scid && u32::from(frame.vcid) == self.config.tm_vcid
     }
 
-    // Takes out the packets that the frame finishes: says how many frames are missing before it, and how
-    // many packets there are.
+    // Extracts the packets that the frame finishes. Returns how many frames are missing before it, and the
+    // number of packets.
     fn extract(&mut self, frame: &TmFrame<'_>) -> Result<(Gap, usize), LinkFault>
         requires { IsTrue (pointer_fits frame.now.pointer (length frame.now.payload.now)) }
         ensures gap { IfOk result
@@ -125,7 +124,7 @@ impl Ground {
     }
 }
 
-// Whether it is still known how far the session has come: not after an alert that shows a broken
+// Returns whether the session's progress is still known. It is not after an alert that shows a broken
 // condition.
 fn kept_beside(kept: bool, alert: Option<Alert>) -> bool
     ensures { result ≡ not (shows_one alert) && kept }
@@ -136,7 +135,7 @@ fn kept_beside(kept: bool, alert: Option<Alert>) -> bool
     }
 }
 
-// A report that does not reach the sender.
+// Returns the result for a CLCW that does not reach the sender.
 fn unused(report: HeardReport) -> HeardClcw
     ensures { result ≡ record { report = report; alert = None } }
 {

@@ -1,4 +1,4 @@
-// What is accepted of octets that have come.
+// The segment that is accepted from octets that have arrived.
 
 ghost use Rattle.std.specs.Prelude.{◌≡◌, ◌<◌, IfSome, option_map};
 ghost use Rattle.tc_frame.specs.Layout.{segment_view};
@@ -9,7 +9,7 @@ use super::arrival::Arrival;
 use tc_frame::Segment;
 
 impl<'a> Arrival<'a> {
-    /// The segment that is accepted, where one is, and the packets that are ready with it, in order.
+    /// Returns the accepted segment, if there is one, and the packets that it makes ready, in order.
     pub fn accepted(&self) -> Option<(Segment<'a>, &[Vec<u8>])>
         ensures accepted { option_map (λ p. (segment_view p.0, octets_of p.1.now)) result
             ≡ accepted_of self.now }

@@ -1,4 +1,4 @@
-// What comes of octets that have come, found out before anything changes.
+// The effect of octets that have arrived, determined before anything changes.
 
 ghost use Rattle.std.specs.Prelude.{◌<◌};
 ghost use Rattle.std.specs.Option.{ForSome};
@@ -12,8 +12,8 @@ use cop1::{Farm, Verdict};
 use map_service::Prepared;
 use tc_frame::{Body, Check, Command, Segment, decode};
 
-/// What comes of octets that have come from the ground, with all the memory that this needs:
-/// `Spacecraft::prepare` makes it, and `Spacecraft::commit` does it.
+/// The effect of octets that have arrived from the ground, with all the memory that this effect needs.
+/// `Spacecraft::prepare` returns it, and `Spacecraft::commit` carries it out.
 #[derive(Drop)]
 pub struct Arrival<'a> {
     pub(crate) octets: &'a [u8],
@@ -31,7 +31,8 @@ impl Spacecraft {
     ghost use Rattle.nodes.specs.Arrival.{accepted_of, segment_in_body, IsAcceptable, IsArrivalOf, IsArrivalAt, after_accepting};
     ghost use Rattle.nodes.specs.Spacecraft.{spacecraft_step, Receive, hands_on, HandsNothingOn, after_segment, body_outcome};
 
-    /// Finds out what comes of octets, and takes the memory that this needs. Nothing changes.
+    /// Determines the effect of octets from the ground, and allocates the memory that `commit` needs. The
+    /// spacecraft does not change.
     /// Faults: 6 Memory. Memory: only for a Type-AD frame that is accepted or a Type-BD frame that is
     /// kept. Cost: n*, and the packets made ready.
     pub fn prepare<'a>(&self, octets: &'a [u8]) -> Result<Arrival<'a>, LinkFault>
@@ -39,7 +40,7 @@ impl Spacecraft {
         ensures arrival { IfOk result (IsArrivalAt self.now) }
         ensures fault { IfErr result (λ e. e ≡ LinkFault.Memory) }
 
-        // It takes no memory for octets of which nothing is handed on.
+        // It takes no memory for octets whose data are not passed on.
         ensures none { HandsNothingOn self.now (frame_at Check.On octets.now) → IsOk result }
         ensures nothing { HandsNothingOn self.now (frame_at Check.On octets.now)
             → IfOk result (λ a. accepted_of a ≡ None) }
@@ -58,7 +59,7 @@ impl Spacecraft {
         }
     }
 
-    /// Takes the octets of which this was prepared; the spacecraft must be as it was then.
+    /// Accepts the octets from which the arrival was prepared. The spacecraft must be as it was at `prepare`.
     /// Cost: n.
     pub fn commit(&mut self, arrival: Arrival<'_>) -> Received
         requires { IsArrivalAt self.old arrival }
@@ -71,7 +72,7 @@ impl Spacecraft {
         arrival.received
     }
 
-    // Hands on the segment that is accepted, where one is.
+    // Passes on the accepted segment, if there is one.
     fn accept(&mut self, accepted: Option<(Segment<'_>, Prepared)>)
         requires { IfSome accepted (λ p. IsAcceptable self.old (segment_view p.0) p.1) }
         ensures { self.new
@@ -91,7 +92,7 @@ impl Spacecraft {
         make_ready(&mut self.ready, segment.header.map, packets);
     }
 
-    // The octets are no frame, or none of this channel.
+    // Returns an arrival without effect: the octets do not form a valid frame of this channel.
     fn unchanged<'a>(&self, octets: &'a [u8], received: Received) -> Arrival<'a>
         ensures octets { result.octets.now ≡ octets.now }
         ensures arrival { IsArrivalOf

@@ -1,4 +1,4 @@
-// What comes from the ground.
+// Telecommand frames from the ground.
 
 ghost use Rattle.std.specs.Prelude.{◌≡◌};
 ghost use Rattle.cop1.specs.Farm.{farm_step};
@@ -25,15 +25,14 @@ impl Spacecraft {
     ghost use Rattle.nodes.specs.Spacecraft.{spacecraft_step, Receive, is_free, is_own_frame, hands_on, HandsNothingOn, hand_on_step, body_outcome};
     ghost use Rattle.nodes.specs.Steps.{TakesStep};
 
-    /// Takes octets that came from the ground: exactly one telecommand frame, with its FECF (CCSDS
-    /// 232.0-B-4, 4.1). It does what `prepare` and then `commit` do. At a fault the spacecraft is as it
-    /// was.
+    /// Accepts octets from the ground: exactly one telecommand frame, with its FECF (CCSDS 232.0-B-4,
+    /// 4.1). The call does what `prepare` and then `commit` do. At a fault the spacecraft is unchanged.
     /// Faults: 6 Memory. Memory: only for a Type-AD frame that is accepted or a Type-BD frame that is
     /// kept. Cost: n*, and the packets made ready.
     pub fn receive(&mut self, octets: &[u8]) -> Result<Received, LinkFault>
         ensures step { TakesStep (spacecraft_step self.old (Receive octets.now)) self.old self.new result }
 
-        // It takes no memory for octets of which nothing is handed on.
+        // It takes no memory for octets whose data are not passed on.
         ensures none { HandsNothingOn self.old (frame_at Check.On octets.now) → IsOk result }
     {
         let frame = match decode(octets, Check::On) {
@@ -80,7 +79,7 @@ impl Spacecraft {
         })
     }
 
-    // Hands on the segment that is accepted: how many packets are ready with it, and what was dropped.
+    // Passes on the accepted segment. Returns how many packets it makes ready, and why octets were dropped.
     fn hand_on_next(&mut self, segment: &Segment<'_>) -> Result<(usize, Option<Dropped>), LinkFault>
         requires free { is_free self.old ≡ true }
         requires short { length segment.now.payload.now ≤ 1016 }
@@ -93,7 +92,7 @@ impl Spacecraft {
         self.hand_on_part(segment)
     }
 
-    // The same of an alone segment whose packets are handed out: they are copied from its octets.
+    // Passes on a segment flagged alone whose packets are delivered: they are copied from its octets.
     fn hand_on_alone(
         &mut self,
         segment: &Segment<'_>,
@@ -111,7 +110,7 @@ impl Spacecraft {
         Ok((ready, dropped))
     }
 
-    // The same of any other segment: at most the packet is ready whose part it ended.
+    // Passes on any other segment, which makes at most one packet ready: the packet that the segment ends.
     fn hand_on_part(&mut self, segment: &Segment<'_>) -> Result<(usize, Option<Dropped>), LinkFault>
         requires part { hands_out (limits_of self.old.config) (segment_view segment.now) ≡ false }
         requires free { is_free self.old ≡ true }
@@ -142,7 +141,7 @@ impl Spacecraft {
         Ok(received)
     }
 
-    // Keeps a packet, where there is one; the oldest goes where as many wait as there are slots.
+    // Keeps a packet, if there is one. Discards the oldest if as many wait as there are slots.
     #[tactic(auto, using(crate::proofs::SpacecraftBounds::past_with))]
     pub(super) fn keep(&mut self, kept: Option<MapPacket>)
         requires within { IfSome kept (λ p. length p.octets ≤ self.old.config.max_packet) }
@@ -166,7 +165,7 @@ impl Spacecraft {
         self.ready.len() < self.config.ready_slots as usize
     }
 
-    // A copy of the packet that a Type-BD frame carries, where it is kept.
+    // Returns a copy of a Type-BD frame's packet if the packet is kept.
     #[tactic(auto, using(crate::proofs::SpacecraftBounds::kept_short))]
     pub(super) fn packet_to_keep(
         &self,

@@ -1,4 +1,4 @@
-// The record of a new board; on the ground, the status that arrived, and the packets that go up.
+// The record of a new board; on the ground, the status that arrived, and the packets for the uplink.
 
 ghost use Rattle.std.specs.Prelude.{◌≡◌, length};
 ghost use Rattle.command_log.specs.History.{history_after};
@@ -41,8 +41,8 @@ pub struct LogOrder {
     pub kind: u8,
 }
 
-/// Writes the record of a new board, the 50 octets that both places have before the board starts for the first time.
-/// Returns 0, or `SEDGE_WRONG_COUNT` if the room is not 50 octets.
+/// Writes the record of a new board, the 50 octets that both places have before the board starts for the
+/// first time. Returns 0, or `SEDGE_WRONG_COUNT` if the buffer is not 50 octets long.
 #[unsafe(no_mangle)]
 #[must_use]
 pub extern "C" fn sedge_log_new_record(out: &mut [u8]) -> u8
@@ -55,8 +55,8 @@ pub extern "C" fn sedge_log_new_record(out: &mut [u8]) -> u8
     0
 }
 
-/// Reads a status that arrived. Returns 0, or the first of 1 to 2 of `sedge_log_fault`: 1 Layout if the octets are not
-/// 27, then 2 Check.
+/// Reads a status that arrived. Returns 0, or the first of 1 to 2 of `sedge_log_fault`: 1 Layout if the
+/// octets are not 27, then 2 Check.
 #[unsafe(no_mangle)]
 #[must_use]
 pub extern "C" fn sedge_log_status_decode(octets: &[u8], status: &mut LogStatus) -> u8
@@ -85,10 +85,10 @@ fn status_with(found: &Status, waiting: u8) -> LogStatus
     }
 }
 
-/// Writes a command packet with this APID, sequence count and number, and with the mission's octets, to the beginning
-/// of `out`, and its length in octets, 14 more than the mission's, to `total`. Returns 0, or the first of
-/// `SEDGE_LOG_FIELD_RANGE` (the APID is above 2,047, the count above 16,383, the number 0, or the mission's octets are
-/// more than 65,528) and `SEDGE_LOG_ROOM`.
+/// Writes a command packet with this APID, sequence count and number, and with the mission's octets, to the
+/// beginning of `out`, and its length in octets, 14 more than the mission's, to `total`. Returns 0, or the
+/// first of `SEDGE_LOG_FIELD_RANGE` (the APID is above 2,047, the count above 16,383, the number 0, or the
+/// mission's octets are more than 65,528) and `SEDGE_LOG_ROOM`.
 #[unsafe(no_mangle)]
 #[must_use]
 pub extern "C" fn sedge_log_command_encode(
@@ -112,9 +112,10 @@ pub extern "C" fn sedge_log_command_encode(
     written!(encode_command(&command, out), |long| *total = long)
 }
 
-/// Writes an order as a packet with this APID and sequence count to the beginning of `out`, and its length, 23 octets,
-/// to `total`. Returns 0, or the first of `SEDGE_DAMAGED` (the kind is out of its enum, or a restart has a last number
-/// or a mark), `SEDGE_LOG_FIELD_RANGE` (the APID is above 2,047 or the count above 16,383) and `SEDGE_LOG_ROOM`.
+/// Writes an order as a packet with this APID and sequence count to the beginning of `out`, and its length,
+/// 23 octets, to `total`. Returns 0, or the first of `SEDGE_DAMAGED` (the kind is not in its enumeration, or
+/// a restart has a last number or a mark), `SEDGE_LOG_FIELD_RANGE` (the APID is above 2,047 or the count
+/// above 16,383) and `SEDGE_LOG_ROOM`.
 #[unsafe(no_mangle)]
 #[must_use]
 pub extern "C" fn sedge_log_order_encode(
@@ -152,8 +153,9 @@ fn order_from(fields: &LogOrder) -> Result<Order, u8>
     Err(DAMAGED)
 }
 
-/// Returns the history after one command packet more: CRC-32 continued over the packet's check, its last four octets.
-/// The history of no packets is 0. A ground that computes it for the packets that it sends compares it with a status.
+/// Returns the history after one more command packet: CRC-32 continued over the packet's check, its last four
+/// octets. The history of no packets is 0. A ground that computes it for the packets that it sends compares
+/// it with a status.
 #[unsafe(no_mangle)]
 pub extern "C" fn sedge_log_history_after(history: u32, packet: &[u8]) -> u32
     ensures { result ≡ history_after history packet.now }

@@ -1,4 +1,4 @@
-// What a report says of the units that are not acknowledged (CCSDS 232.1-B-2, 5.1).
+// What a CLCW shows of the units that are not acknowledged (CCSDS 232.1-B-2, 5.1).
 
 ghost use Rattle.cop1.specs.Accepted.{accepted_beyond};
 ghost use Rattle.sedgechisel.specs.Answers.{if_there, IsWritten};
@@ -9,12 +9,13 @@ use super::fields::described;
 use crate::numbers::ABSENT;
 use cop1::accepted_beyond;
 
-/// Writes how many of the units that were sent and not acknowledged were accepted on board when a report of this value
-/// was made: the oldest ones, those with the numbers from NN(R) to value - 1 (5.1). It does so after an alert too,
-/// until V(S) is set or an initiation begins, and goes by the numbers alone: after an alert that shows a broken
-/// condition nothing of them is known, whatever it writes. If V(S) is NN(R) there are no such units, and it writes 0
-/// whatever the value. Returns 0, or `SEDGE_DAMAGED`, or `SEDGE_ABSENT` if there are such units and the value does not
-/// lie from NN(R) to V(S), so that nothing is known of them; nothing is written then.
+/// Writes how many of the units that were sent and not acknowledged were accepted on board when a CLCW of
+/// this value was made. They are the oldest ones, with the numbers from NN(R) to value - 1 (5.1). The call
+/// does so after an alert too, until V(S) is set or an initiation begins. It uses only the numbers: after an
+/// alert that shows a broken condition nothing is known of these units, whatever the call writes. If V(S) is
+/// NN(R), there are no such units, and the call writes 0 for every value. Returns 0, or `SEDGE_DAMAGED`, or
+/// `SEDGE_ABSENT` if there are such units and the value does not lie from NN(R) to V(S), so that nothing is
+/// known of them; nothing is written then.
 #[unsafe(no_mangle)]
 #[must_use]
 pub extern "C" fn sedge_fop_accepted_beyond(sender: &KeptSender, value: u8, accepted: &mut u8) -> u8
@@ -29,7 +30,8 @@ pub extern "C" fn sedge_fop_accepted_beyond(sender: &KeptSender, value: u8, acce
     }
 }
 
-/// The same of a sender with these numbers for NN(R) and V(S). Returns 0, or `SEDGE_ABSENT` if nothing is known.
+/// Writes the same number for a sender with this NN(R) and V(S). Returns 0, or `SEDGE_ABSENT` if nothing is
+/// known.
 #[unsafe(no_mangle)]
 #[must_use]
 pub extern "C" fn sedge_accepted_beyond(nn: u8, vs: u8, value: u8, accepted: &mut u8) -> u8

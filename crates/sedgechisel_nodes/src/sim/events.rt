@@ -10,7 +10,8 @@ use c_words::directive_named;
 use std::alloc::Global;
 use tc_link::Event;
 
-/// An event: its kind, 1 to 17, then what that kind has; the rest is ignored. For C it is `struct sedge_event`.
+/// An event: its kind, 1 to 17, and the fields of that kind; the rest is ignored. For C it is `struct
+/// sedge_event`.
 #[repr(C)]
 #[derive(Clone, Copy)]
 pub struct KeptEvent<'a> {
@@ -20,13 +21,14 @@ pub struct KeptEvent<'a> {
     pub map: u8,
     /// Of `sedge_directive`.
     pub directive: u8,
-    /// The directive's, as of `sedge_ground_directive`; or that of a report, by which the ground resumes, 0 to 255.
+    /// The directive's, as for `sedge_ground_directive`; or that of the CLCW with which the ground resumes, 0
+    /// to 255.
     pub value: u16,
-    /// Where they begin.
+    /// Where the octets begin.
     pub octets: &'a [u8],
 }
 
-// The event, by the order of `Event`.
+// The event, numbered in the order of `Event`.
 fn event_named<'a>(event: &KeptEvent<'a>) -> Option<Event<'a>>
     ensures { result ≡ event_named event.now }
 {
@@ -53,7 +55,7 @@ fn event_named<'a>(event: &KeptEvent<'a>) -> Option<Event<'a>>
     }
 }
 
-// The octet that a value is, if it is one.
+// The value as an octet, if it is one.
 fn octet_in(value: u16) -> Option<u8>
     ensures { result ≡ octet_in value }
 {
@@ -64,11 +66,12 @@ fn octet_in(value: u16) -> Option<u8>
     }
 }
 
-/// An event happens. Returns 0 and writes the reply; or a number of `sedge_sim_fault`, and nothing happens; or
-/// `SEDGE_NODE_NONE`, also for a kind that is none, where `sedge_ground_directive` answers it to the directive and the
-/// value, and for a value above 255 by which the ground is to resume. No directive, resumption, loss, damage, control
-/// word by itself, tick or take answers `SEDGE_SIM_MEMORY`. What a node refuses is a reply. The octets of a frame that
-/// was sent, and of a packet that was taken, stay to be read until the next event (`sedge_sim_octets`).
+/// Lets an event happen. Returns 0 and writes the reply; or a number of `sedge_sim_fault`, and nothing
+/// happens; or `SEDGE_NODE_NONE`, also for a number that is not a kind, for a directive and a value if
+/// `sedge_ground_directive` returns it for them, and for a value above 255 with which the ground is to
+/// resume. No directive, resumption, loss, damage, CLCW by itself, tick or take returns `SEDGE_SIM_MEMORY`. A
+/// node's refusal is a reply. The octets of a frame that was sent, and of a packet that was taken, can be
+/// read until the next event (`sedge_sim_octets`).
 #[unsafe(no_mangle)]
 #[must_use]
 pub extern "C" fn sedge_sim_step(

@@ -54,7 +54,7 @@ impl Link {
         self.octets.as_slice()
     }
 
-    // Lets an event happen, and writes the reply. Answers 0, or the number of the refusal.
+    // Lets an event happen, and writes the reply. Returns 0, or the number of the refusal.
     pub(crate) fn step(&mut self, alloc: Global, event: Event<'_>, reply: &mut KeptReply) -> u8
         ensures answer { IsStepAnswer (world_step self.old.world event.entry).answer result }
         ensures takes_none { TakesNone self.old.world event.entry → result ≢ 6 }

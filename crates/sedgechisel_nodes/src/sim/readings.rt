@@ -1,4 +1,4 @@
-// What a program in C reads of a simulated link and its nodes.
+// What a program in C reads from a simulated link and its nodes.
 
 ghost use Rattle.std.specs.Prelude.{◌≡◌, Some};
 ghost use Rattle.sedgechisel_nodes.specs.Calls.{IsRead, next_answer, IsHanding};
@@ -13,25 +13,25 @@ use cop1::Directive;
 use std::alloc::Global;
 use tc_link::Sim;
 
-/// What is read of a simulated link.
+/// A reading of a simulated link.
 #[repr(C)]
 #[derive(Clone, Copy)]
 pub struct SimReading {
     /// The number of segments that were submitted and are not acknowledged.
     pub outstanding: usize,
-    /// How many of the first ones of the frames sent the ground holds acknowledged.
+    /// How many of the frames sent, from the first on, the ground holds as acknowledged.
     pub acknowledged: usize,
-    /// Of the ground's sender, of `sedge_fop_state`.
+    /// The state of the ground's sender, of `sedge_fop_state`.
     pub state: u8,
     /// Of `sedge_begun`.
     pub begun: u8,
     /// The number of Set V(R).
     pub vr: u8,
-    /// It began with nothing on its way, and without a CLCW check only where V(R) was V(S).
+    /// The session began with nothing in transit, and without a CLCW check only if V(R) was V(S).
     pub clean: bool,
-    /// It had an idle start (docs/PROMISES.md).
+    /// The session had an idle start (docs/PROMISES.md).
     pub idle: bool,
-    /// A report has taken the ground from S4 or S5 to S1.
+    /// A CLCW has taken the ground from S4 or S5 to S1.
     pub confirmed: bool,
 }
 
@@ -63,7 +63,7 @@ fn link_reading(sim: &Sim) -> SimReading
     }
 }
 
-/// Reads the link: how the session began and how far it is. It stays as it was. Returns 0.
+/// Reads the link: how the session began and how far it is. The link does not change. Returns 0.
 #[unsafe(no_mangle)]
 pub extern "C" fn sedge_sim_read(alloc: Global, sim: &mut SimHandle, read: &mut SimReading) -> u8
     ensures { IsRead (λ l. Some (link_reading_of l.world)) sim.old.value sim.new.value result read.old read.new }
@@ -71,7 +71,7 @@ pub extern "C" fn sedge_sim_read(alloc: Global, sim: &mut SimHandle, read: &mut 
     read!(alloc, sim, read, |link| link_reading(link.sim()))
 }
 
-/// Reads the link's ground, as `sedge_ground_read` reads a ground. The link stays as it was. Returns 0.
+/// Reads the link's ground, as `sedge_ground_read` reads a ground. The link does not change. Returns 0.
 #[unsafe(no_mangle)]
 pub extern "C" fn sedge_sim_ground_read(
     alloc: Global,
@@ -84,7 +84,8 @@ pub extern "C" fn sedge_sim_ground_read(
     read!(alloc, sim, read, |link| reading(link.sim().ground()))
 }
 
-/// Reads the link's spacecraft, as `sedge_spacecraft_read` reads a spacecraft. The link stays as it was. Returns 0.
+/// Reads the link's spacecraft, as `sedge_spacecraft_read` reads a spacecraft. The link does not change.
+/// Returns 0.
 #[unsafe(no_mangle)]
 pub extern "C" fn sedge_sim_spacecraft_read(
     alloc: Global,
@@ -102,8 +103,8 @@ pub extern "C" fn sedge_sim_spacecraft_read(
     )
 }
 
-/// Writes the octets of the last event's frame or packet, of which the reply has the `count`, and their number; 0
-/// octets where the reply had none. They stay. Returns 0 or `SEDGE_NODE_ROOM`.
+/// Writes the octets of the last event's frame or packet, and their number, which is the reply's `count`; or
+/// 0 octets if the reply had none. The octets stay. Returns 0 or `SEDGE_NODE_ROOM`.
 #[unsafe(no_mangle)]
 #[must_use]
 pub extern "C" fn sedge_sim_octets(

@@ -1,4 +1,4 @@
-// What a program in C reads of the records of a session.
+// What a program in C reads from the records of a session.
 
 ghost use Rattle.std.specs.Prelude.{◌≡◌, Some, option_map, option_copied, length, []};
 ghost use Rattle.std.specs.Option.{unwrap_or};
@@ -12,7 +12,7 @@ use crate::room::{hand_out, write};
 use std::alloc::Global;
 use tc_link::Sim;
 
-// The entries of a record by its number; none for a number that is none.
+// The entries of the record with this number; none for any other number.
 fn entries_of(sim: &Sim, number: u8, map: u8) -> Option<&[Vec<u8>]>
     ensures { unwrap_or (option_map (λ r. octets_of r.now) result) []
         ≡ record_of sim.now.world number map }
@@ -48,8 +48,8 @@ fn entry_of(sim: &Sim, number: u8, map: u8, k: usize) -> Option<&[u8]>
     }
 }
 
-/// Writes how many entries a record has, of `sedge_record`; the MAP counts for `SEDGE_SUBMITTED` and `SEDGE_DELIVERED`
-/// alone. For another number there are none. Returns 0.
+/// Writes how many entries a record has, of `sedge_record`; the MAP matters only for `SEDGE_SUBMITTED` and
+/// `SEDGE_DELIVERED`. For any other number there are none. Returns 0.
 #[unsafe(no_mangle)]
 pub extern "C" fn sedge_sim_count(
     alloc: Global,
@@ -78,7 +78,8 @@ fn length_of_entry(sim: &Sim, number: u8, map: u8, k: usize) -> Option<usize>
     }
 }
 
-/// Writes how many octets entry `k` has, counted from 0. Returns 0, or `SEDGE_NODE_ABSENT` if there are not that many.
+/// Writes how many octets entry `k` has, counted from 0. Returns 0, or `SEDGE_NODE_ABSENT` if there are not
+/// so many entries.
 #[unsafe(no_mangle)]
 #[must_use]
 pub extern "C" fn sedge_sim_entry_length(

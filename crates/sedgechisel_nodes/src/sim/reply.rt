@@ -10,13 +10,13 @@ use clcw::Clcw;
 use std::alloc::Global;
 use tc_link::{NodeFault, Reply};
 
-/// A reply: its kind, then what that kind has; the rest is 0. For C it is `struct sedge_reply`.
+/// A reply: its kind, and the fields of that kind; the rest is 0. For C it is `struct sedge_reply`.
 #[repr(C)]
 #[derive(Clone, Copy, Default)]
 pub struct KeptReply {
-    /// The octets of the frame that was sent, or of the packet.
+    /// The number of octets of the frame that was sent, or of the packet.
     pub count: usize,
-    /// How many submissions of the session that ended are on board whole.
+    /// How many submissions of the ended session are on board whole.
     pub whole: u64,
     pub up: KeptReceived,
     pub down: KeptHeard,
@@ -25,7 +25,7 @@ pub struct KeptReply {
     pub kind: u8,
     /// Of `sedge_refused_by`.
     pub by: u8,
-    /// Of the enum that by names.
+    /// Of the enumeration that `by` selects.
     pub fault: u8,
     /// Of `sedge_alert`.
     pub alert: u8,
@@ -43,7 +43,7 @@ fn part_refusing(fault: NodeFault) -> (u8, u8)
     }
 }
 
-// The reply of which nothing but the kind is known.
+// The reply with only its kind.
 fn reply_of(kind: u8) -> KeptReply
     ensures { result ≡ record no_reply { kind = kind } }
 {

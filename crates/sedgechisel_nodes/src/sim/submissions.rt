@@ -11,7 +11,8 @@ use crate::room::{describe, hand_out_on};
 use std::alloc::Global;
 use tc_link::Sim;
 
-/// Writes how many submissions the session has: the calls of `sedge_sim_submit` that the ground accepted. Returns 0.
+/// Writes how many submissions the session has: the calls of `sedge_sim_submit` that the ground accepted.
+/// Returns 0.
 #[unsafe(no_mangle)]
 pub extern "C" fn sedge_sim_submissions(alloc: Global, sim: &mut SimHandle, count: &mut usize) -> u8
     ensures { IsRead (λ l. Some (length l.world.session.submissions))
@@ -30,8 +31,8 @@ fn submission_of(sim: &Sim, k: usize) -> Option<(u8, &[u8])>
     }
 }
 
-/// Writes the MAP of submission `k`, in order from 0, and the number of its octets. Returns 0, or `SEDGE_NODE_ABSENT`
-/// if there are not that many.
+/// Writes the MAP of submission `k`, in order from 0, and the number of its octets. Returns 0, or
+/// `SEDGE_NODE_ABSENT` if there are not that many.
 #[unsafe(no_mangle)]
 #[must_use]
 pub extern "C" fn sedge_sim_submission_length(
@@ -56,8 +57,8 @@ pub extern "C" fn sedge_sim_submission_length(
     })
 }
 
-/// Writes the MAP and the octets of submission `k`, and their number. Returns 0, or the first of `SEDGE_NODE_ABSENT`
-/// and `SEDGE_NODE_ROOM`.
+/// Writes the MAP and the octets of submission `k`, and their number. Returns 0, or the first of
+/// `SEDGE_NODE_ABSENT` and `SEDGE_NODE_ROOM`.
 #[unsafe(no_mangle)]
 #[must_use]
 pub extern "C" fn sedge_sim_submission(

@@ -1,4 +1,4 @@
-// The records of what is accepted on board.
+// The records of the frames accepted on board.
 
 ghost use Rattle.std.specs.Prelude.{◌≡◌, ◌≤◌, ◌<◌, ◌++◌, ℕ, length, option_map, option_to_list, None, IsOk, OnOk, IfSome};
 ghost use Rattle.tm_link.specs.Extractor.{octets_of};
@@ -10,7 +10,7 @@ use crate::acceptance::Acceptance;
 use crate::map_lists::{append_on, make_room};
 use std::alloc::AllocError;
 
-// Makes room for what will be accepted: its data field, and its packets.
+// Makes room for the data field and the packets of a frame that will be accepted, if there is one.
 pub(super) fn make_room_for(
     accepted: &mut Vec<Vec<u8>>,
     delivered: &mut [Vec<Vec<u8>>; 64],
@@ -29,7 +29,7 @@ pub(super) fn make_room_for(
     Ok(())
 }
 
-// Records what was accepted, where there is room for it.
+// Records an acceptance, if there is one. There must be room for it.
 pub(super) fn record_accepted(
     accepted: &mut Vec<Vec<u8>>,
     delivered: &mut [Vec<Vec<u8>>; 64],

@@ -1,4 +1,4 @@
-// Calls of the nodes that put nothing on its way.
+// Calls of the nodes that put no frame in transit.
 
 ghost use Rattle.std.specs.Prelude.{◌≡◌, option_map};
 ghost use Rattle.nodes.specs.Packets.{packet_view};
@@ -146,7 +146,7 @@ impl World {
     }
 }
 
-// Whether each frame is a telemetry frame whose report has the value and the flags of this one.
+// Returns whether each is a telemetry frame whose CLCW has the value and the flags of this one.
 fn all_report_as(down: &VecDeque<Vec<u8>>, total: usize, now: Clcw) -> bool
     ensures { result ≡ list_all (λ octets. reports_as now (frame_at total octets))
         (octets_of down.now.items) }
@@ -159,7 +159,7 @@ fn all_report_as(down: &VecDeque<Vec<u8>>, total: usize, now: Clcw) -> bool
     true
 }
 
-// Whether the octets are a telemetry frame whose report has the value and the flags of this one.
+// Returns whether the octets are a telemetry frame whose CLCW has the value and the flags of this one.
 fn reports_as(octets: &[u8], total: usize, now: Clcw) -> bool
     ensures { result ≡ reports_as now (frame_at total octets.now) }
 {

@@ -1,4 +1,4 @@
-// What comes from the spacecraft: telemetry frames, which report.
+// The downlink: telemetry frames with CLCWs.
 
 ghost use Rattle.std.specs.Prelude.{◌≡◌};
 ghost use Rattle.simulated_link.specs.World.{is_confirmation};
@@ -65,7 +65,7 @@ impl World {
         }
     }
 
-    // The ground is given a control word, and the session goes on with it.
+    // Gives the ground a CLCW, and updates the session's records.
     fn hear_word(&mut self, word: [u8; 4]) -> HeardClcw
         ensures answer { result ≡ (ground_step self.old.ground_node (ControlWord word)).answer }
         ensures after { self.new ≡ (world_after_word self.old self.old.down
@@ -80,7 +80,7 @@ impl World {
     }
 }
 
-// Whether a report that takes the ground from one state to another confirms the session.
+// Returns whether a CLCW that takes the ground from one state to another confirms the session.
 fn is_confirmation(old: FopMode, new: FopMode) -> bool
     ensures { result ≡ is_confirmation old new }
 {

@@ -1,4 +1,4 @@
-// Frames that are lost or damaged on their way.
+// Frames that are lost or damaged in transit.
 
 use super::World;
 use crate::fault::SimFault;

@@ -10,9 +10,9 @@ impl World {
     ghost use Rattle.simulated_link.specs.Events.{IsReplyTo, TakesNone};
     ghost use Rattle.simulated_link.specs.World.{world_step};
 
-    /// Lets an event happen. Refuses by 7 an event that needs a frame on its way where there is none,
-    /// and by 8 octets of a damaged frame that the receiver's decoder accepts. Nothing has changed
-    /// then. Any other refusal of a node is a reply.
+    /// Runs an event, and returns the reply. Refuses 7 `NothingInTransit` if there is no frame in transit for
+    /// the event. Refuses 8 `NotDetectable` if the receiver's decoder accepts the octets of a damaged frame.
+    /// At a fault nothing has changed. Any other refusal of a node is a reply.
     /// Faults: 7 NothingInTransit, then 8 NotDetectable, then 6 Memory. Memory: yes; none for losing,
     /// damaging, a CLCW by itself, ticks, directives, resuming and taking. Cost: that of the nodes' calls;
     /// where a session begins also the records released.

@@ -1,4 +1,4 @@
-// What goes to the spacecraft: telecommand frames.
+// The uplink: packets, and the telecommand frames that carry them.
 
 ghost use Rattle.std.specs.Prelude.{◌≡◌, ◌<◌, ◌++◌, IfOk, option_to_list, option_map};
 ghost use Rattle.std.specs.Vec.{vec_len, vec_capacity};
@@ -96,7 +96,7 @@ impl World {
     }
 }
 
-// Packets, each copied.
+// Returns a copy of each packet.
 fn copied(alloc: Global, packets: &[&[u8]]) -> Result<Vec<Vec<u8>>, AllocError>
     ensures { IfOk result (λ copies. packets_view copies ≡ slices_view packets.now) }
 {
@@ -107,7 +107,7 @@ fn copied(alloc: Global, packets: &[&[u8]]) -> Result<Vec<Vec<u8>>, AllocError>
     Ok(copies)
 }
 
-// Puts a field, where there is one, after those that there are.
+// Appends a field, if there is one, to a list. There must be room for it.
 fn push_some(fields: &mut Vec<Vec<u8>>, field: Option<Vec<u8>>)
     requires { vec_len fields.old < vec_capacity fields.old }
     ensures items { octets_of fields.new.items

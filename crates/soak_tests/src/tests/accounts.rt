@@ -1,5 +1,5 @@
-// What values ask for, and what they give back: tools/accounts preloads a library that keeps an account of the
-// memory at each line on standard error that begins with 'account', and compares what it says.
+// The memory that values request and release. tools/accounts preloads a library that notes the memory at each
+// line on standard error that begins with 'account', and compares the notes.
 
 use super::pair::Pair;
 use cop1::Fop;
@@ -17,7 +17,7 @@ fn notes(rt: &impl Eprint, line: &str) {
     let _ = eprintln!(rt; "{line}");
 }
 
-// Notes the account before something is made or done, and the account of this name while it lives.
+// Prints the line for the memory before a value is made, and the line of this name while the value lives.
 fn keeps<T: Drop, F: FnOnce() -> T>(rt: &impl Eprint, line: &str, make: F)
     requires { F.IsAlwaysCallable make }
 {
@@ -187,7 +187,7 @@ fn splits(rt: &impl Abort, splitter: &mut Splitter<Packets>, octets: &[u8]) {
     }
 }
 
-// 10,000 packets of 100 octets, each fed and handed out.
+// Feeds 10,000 packets of 100 octets, each of which is delivered.
 #[test]
 fn a_splitter_for_ever(rt: HostRuntime) {
     let packet = super::pair::command(&rt, rt.alloc(), 100, 0);
@@ -197,7 +197,7 @@ fn a_splitter_for_ever(rt: HostRuntime) {
     notes(&rt, "account a splitter for ever");
 }
 
-// 10,000 packets of 100 octets, each queued on board, sent, and taken on the ground.
+// Queues 10,000 packets of 100 octets on board, sends each, and takes it on the ground.
 #[test]
 fn telemetry_for_ever(rt: HostRuntime) {
     let mut pair = Pair::new(&rt, rt.alloc(), &Config::default());
@@ -212,7 +212,8 @@ fn telemetry_for_ever(rt: HostRuntime) {
     notes(&rt, "account telemetry for ever");
 }
 
-// 10,000 packets of 3,000 octets in turn under and past the sequence control, each taken on board.
+// Sends 10,000 packets of 3,000 octets in sequence, and as many of 100 octets by bypass, and takes each on
+// board.
 #[test]
 fn commands_for_ever(rt: HostRuntime) {
     let mut pair = Pair::new(&rt, rt.alloc(), &Config::default());

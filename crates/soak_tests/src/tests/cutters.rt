@@ -1,4 +1,4 @@
-// Files fed whole to what cuts a stream, and once more while octets are held.
+// Streams fed whole to a cutter, and then one octet while the cutter holds others.
 
 use super::pair::command;
 use listings::{Cutter, FrameCutter, FrameLength};
@@ -15,7 +15,8 @@ impl FrameLength for Twenty {
     ghost payload = { 8 };
 }
 
-// A cutter that is fed a record `number` times over, less its last octet, and then this octet, hands each out.
+// Feeds a cutter `number` copies of a record without the last octet, then this octet; checks that it delivers
+// each.
 fn cuts<S: Cutter>(rt: &impl Abort, alloc: Global, cutter: &mut S, record: &[u8], number: usize) {
     let octets = repeated(rt, alloc, record, number);
     feeds(rt, cutter, octets.as_slice());
@@ -53,7 +54,8 @@ fn repeated(rt: &impl Abort, alloc: Global, record: &[u8], number: usize) -> Vec
     octets
 }
 
-// Lengths of a stream: two octets, just past 64 KiB, past twice as much, and as much as 10^6 of the shortest packets.
+// Lengths of a stream: two octets, just over 64 KiB, just over 128 KiB, and the length of 10^6 of the
+// shortest packets.
 const LENGTHS: [usize; 4] = [2, 65_600, 131_200, 7_000_000];
 
 fn cuts_each_length<S: Cutter + Drop>(rt: &impl Abort, alloc: Global, cutter: S, record: &[u8]) {

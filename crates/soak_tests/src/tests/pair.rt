@@ -1,5 +1,5 @@
-// Both nodes with ample memory, between which telemetry frames come down, and packets of any size, each of
-// which differs from the one before it.
+// Both nodes with ample memory and telemetry frames between them, and packets of any size, each different
+// from the one before it.
 
 use cop1::Directive;
 use nodes::{Config, Ground, Heard, Spacecraft};
@@ -29,7 +29,7 @@ impl Pair {
         assert_eq!(rt; queued, Ok(()));
     }
 
-    /// A telemetry frame comes down: the number of packets that it finishes.
+    /// Sends a telemetry frame to the ground, and returns how many packets it finishes.
     pub fn hears(&mut self, rt: &impl Abort) -> usize {
         let mut out = [0; 2048];
         let size = self.spacecraft.report(&mut out);
@@ -39,7 +39,7 @@ impl Pair {
         }
     }
 
-    /// Takes the oldest packet that came down, which is this one.
+    /// Takes the oldest packet that the ground received, and checks that it is this one.
     pub fn takes(&mut self, rt: &impl Abort, alloc: Global, size: usize, count: usize) {
         let packet = measurement(rt, alloc, size, count);
         let is_it = match self.ground.take_telemetry() {
@@ -55,7 +55,7 @@ impl Pair {
         assert_eq!(rt; answer, Ok(None));
     }
 
-    // The ground sends all frames that it may, and each arrives on board.
+    // Sends all frames that the ground may send. Each arrives on board.
     fn sends(&mut self, rt: &impl Abort) {
         let mut out = [0; 1024];
         for _ in 0..300 {
@@ -67,8 +67,7 @@ impl Pair {
         }
     }
 
-    /// A packet in segments goes up, and one past the sequence control; both are taken on board, and the report comes
-    /// down.
+    /// Sends one packet in segments and one by bypass, takes both on board, and sends the CLCW down.
     pub fn carries(&mut self, rt: &impl Abort, alloc: Global, count: usize) {
         let packet = command(rt, alloc, 3000, count);
         let short = command(rt, alloc, 100, count);
@@ -86,7 +85,7 @@ impl Pair {
     }
 }
 
-// Whether it is this packet, on this MAP.
+// Returns whether the packet taken is this one, on this MAP.
 fn is_on(taken: Option<(u8, Vec<u8>)>, map: u8, packet: &Vec<u8>) -> bool {
     match taken {
         Some((on, octets)) => on == map && octets == *packet,
@@ -94,8 +93,8 @@ fn is_on(taken: Option<(u8, Vec<u8>)>, map: u8, packet: &Vec<u8>) -> bool {
     }
 }
 
-// A packet of this size, from 7 to 65,542 octets, with this first octet and this sequence count. Every second one has a
-// secondary header.
+// Returns a packet of this size, from 7 to 65,542 octets, with this first octet and this sequence count.
+// Every second packet has a secondary header.
 fn packet(rt: &impl Abort, alloc: Global, kind: u8, size: usize, count: usize) -> Vec<u8> {
     let [.., high, low] = count.to_be_bytes();
     let [.., long, short] = size.wrapping_sub(7).to_be_bytes();
@@ -108,12 +107,12 @@ fn packet(rt: &impl Abort, alloc: Global, kind: u8, size: usize, count: usize) -
     octets
 }
 
-/// A command packet.
+/// Returns a command packet.
 pub fn command(rt: &impl Abort, alloc: Global, size: usize, count: usize) -> Vec<u8> {
     packet(rt, alloc, 0x10, size, count)
 }
 
-/// A packet of telemetry.
+/// Returns a packet of telemetry.
 pub fn measurement(rt: &impl Abort, alloc: Global, size: usize, count: usize) -> Vec<u8> {
     packet(rt, alloc, 0x00, size, count)
 }

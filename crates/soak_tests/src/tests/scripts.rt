@@ -15,14 +15,14 @@ fn append(rt: &impl Abort, script: &mut String, line: &str, number: usize) {
     }
 }
 
-// A script of this number of lines that are alike is answered by a line each.
+// Checks that a script of `number` equal lines is answered by one line for each.
 fn repeats(rt: &impl Abort, alloc: Global, line: &str, number: usize) {
     let mut script = String::new(alloc);
     append(rt, &mut script, line, number);
     answers(rt, alloc, script.as_bytes(), number, b"");
 }
 
-// A script is answered by this number of lines, which begin so.
+// Checks that a script is answered by `number` lines, and how the answers begin.
 fn answers(rt: &impl Abort, alloc: Global, script: &[u8], number: usize, begin: &[u8]) {
     let mut written = Vec::new(alloc);
     let ended = play_script(
@@ -46,7 +46,7 @@ fn scripts_of_a_megabyte(rt: HostRuntime) {
     repeats(&rt, rt.alloc(), "tick\n", 300_000);
 }
 
-// The longest packet in one word of 131,084 digits.
+// Submits the longest packet, in one word of 131,084 digits.
 #[test]
 fn a_word_of_the_longest_packet(rt: HostRuntime) {
     let mut script = String::new(rt.alloc());

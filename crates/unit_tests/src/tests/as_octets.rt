@@ -1,4 +1,4 @@
-// What `cut` makes of a packet, as the octets of data fields, worked by hand.
+// The data fields that `cut` makes of a packet, as octets worked by hand.
 
 ghost use Rattle.std.specs.Prelude.{◌≤◌};
 
@@ -9,7 +9,7 @@ use std::alloc::Global;
 use std::process::Abort;
 use tc_frame::{Body, Check, Segment, TcFrame, encode};
 
-// A frame that carries the segment, in octets, and how many these are.
+// Returns a frame that carries the segment, as octets, and its length.
 fn written(segment: Segment<'_>) -> ([u8; 16], usize) {
     let frame = TcFrame {
         scid: 1,
@@ -21,7 +21,8 @@ fn written(segment: Segment<'_>) -> ([u8; 16], usize) {
     (out, total)
 }
 
-// There is a segment, and a frame that carries it has this data field, after its header of 5 octets.
+// Checks that there is a segment, and that a frame that carries it has this data field after the 5-octet
+// header.
 fn is_spelled(rt: &impl Abort, segment: Option<&Segment<'_>>, octets: &[u8]) {
     match segment {
         Some(segment) => {
@@ -45,7 +46,7 @@ fn cut_in(part: u32, segments: &mut Vec<Segment<'static>>) -> Result<(), MapFaul
     cut(&P0, 4, &limits, segments)
 }
 
-// On MAP 4 the packet has these data fields.
+// Checks that the packet, cut on MAP 4, has these data fields.
 fn is_cut(rt: &impl Abort, alloc: Global, part: u32, fields: &[&[u8]])
     requires { 1 ≤ part }
 {

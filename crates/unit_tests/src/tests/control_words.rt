@@ -1,4 +1,4 @@
-// Control words and their octets.
+// CLCWs and their octets.
 
 use super::equal::equal;
 use bitflags::Flags;

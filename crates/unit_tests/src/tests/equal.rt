@@ -1,9 +1,9 @@
-// A comparison that is proved once, and not at each place.
+// A comparison that is proved once, and not wherever it is used.
 
 use std::fmt::Debug;
 use std::process::Abort;
 
-/// Stops the test unless both are equal, and says what they are.
+/// Stops the test and prints both values unless they are equal.
 pub fn equal<A: PartialEq + Debug>(rt: &impl Abort, left: &A, right: &A) {
     assert_eq!(*rt; *left, *right);
 }

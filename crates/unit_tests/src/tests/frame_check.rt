@@ -1,10 +1,10 @@
-// The check of frames, and its table against the plain program.
+// The FECF, and its table against the plain bitwise program.
 
 use super::equal::equal;
 use octets::{append_check, check, check_holds, first_two, low_eleven};
 use std::process::Abort;
 
-// The check bit by bit: a register preset to ones, shifted once a bit.
+// Computes the FECF bit by bit, with a register preset to ones and shifted once for each bit.
 fn plain_check(octets: &[u8]) -> u16 {
     let mut register: u16 = 0xffff;
     for octet in octets {
@@ -39,8 +39,8 @@ fn has_known_checks(rt: &impl Abort) {
     }
 }
 
-// The entries of both tables show in the checks of one octet and of two: an octet that inverts the register's ones
-// leaves 0 of it, and entry 0 is 0.
+// The FECF of one octet shows the entries of one table, and that of two octets the entries of the other. An
+// octet that inverts the ones in the register makes them 0, and entry 0 is 0.
 #[test]
 fn known_entries(rt: HostRuntime) {
     for (place, entry) in [(0, 0), (1, 0x1021), (2, 0x2042), (255, 0x1ef0)] {
@@ -51,7 +51,7 @@ fn known_entries(rt: HostRuntime) {
     }
 }
 
-// Every octet, and every length up to 64 of octets that look random.
+// Covers every octet, and octets that look random in every length up to 64.
 #[test]
 fn the_table_is_the_plain_program(rt: HostRuntime) {
     for octet in 0..=255u8 {

@@ -8,7 +8,7 @@ use octets::Wire;
 use std::process::Abort;
 use tc_frame::*;
 
-/// A Type-AD frame with number 3, which carries a packet on MAP 4, without a check.
+/// A Type-AD frame with N(S) = 3 and without FECF, which carries a packet on MAP 4.
 pub const DATA: [u8; 13] = [
     0x00, 0x01, 0x08, 0x0c, 0x03, 0xc4, 0x10, 0x05, 0xc0, 0x00, 0x00, 0x00, 0xaa,
 ];
@@ -40,7 +40,7 @@ fn reads(rt: &impl Abort, octets: &[u8], check: Check, frame: TcFrame<'_>) {
     equal(rt, &decode(octets, check), &Ok(frame));
 }
 
-// How many octets the frame has, of which it is known before.
+// Writes the frame and returns its length, or None if `total` predicts another one.
 fn written(body: Body, check: Check, out: &mut [u8]) -> Option<usize> {
     let frame = frame(body);
     let total = encode(&frame, check, out).ok();
@@ -100,7 +100,7 @@ fn faults_of_the_header(rt: HostRuntime) {
 
 const LONG: [u8; 7] = [0x30, 0x01, 0x08, 0x05, 0x00, 0x00, 0x00];
 
-// DATA with another first octet.
+// Returns DATA with another first octet.
 fn with_first(octet: u8) -> [u8; 13] {
     let mut octets = DATA;
     octets[0] = octet;
@@ -121,7 +121,7 @@ fn faults_after_the_header(rt: HostRuntime) {
     }
 }
 
-// How many of the frames are refused that differ in one octet, at this place.
+// Counts the refused frames among those with each value of the octet at this place.
 fn refused_at(octets: &[u8; 15], place: usize) -> u8
     requires { place < 15 }
 {
@@ -147,7 +147,7 @@ fn a_wrong_octet(rt: HostRuntime) {
     }
 }
 
-// Feeds. Where memory is refused nothing has changed, and the call made again answers as ever.
+// Feeds the octets. If memory is refused, nothing changes, and the repeated call succeeds.
 fn feed<C: Wire<Fault = TcFault>>(
     rt: &(impl Abort + Eprint),
     splitter: &mut TcSplitter<C>,
@@ -157,7 +157,7 @@ fn feed<C: Wire<Fault = TcFault>>(
     equal(rt, &fed, &Ok(()));
 }
 
-/// The next record, or the fault of its length.
+/// Checks the next record, or the fault of its length.
 pub fn hands_out<C: Wire<Fault = TcFault>>(
     rt: &impl Abort,
     splitter: &mut TcSplitter<C>,
@@ -166,7 +166,7 @@ pub fn hands_out<C: Wire<Fault = TcFault>>(
     equal(rt, &splitter.next(), &record);
 }
 
-/// Whether the stream may end here.
+/// Checks whether the stream may end here.
 pub fn ends<C: Wire<Fault = TcFault>>(
     rt: &impl Abort,
     splitter: &TcSplitter<C>,

@@ -1,4 +1,4 @@
-// Refusals by their numbers and their names, and what else has a name.
+// The numbers and names of faults, and the other names.
 
 use super::equal::equal;
 use clcw::ClcwFault;

@@ -1,5 +1,5 @@
-// Calls that take no memory: `verify` runs these tests with all allocations refused after the words 'set up', and
-// tools/accounts looks that none is asked for.
+// Calls that take no memory. tools/refusals runs these tests with all allocations refused after the words
+// 'set up', and tools/accounts checks that none is requested.
 
 ghost use Rattle.std.specs.Prelude.{◌≡◌, ◌≤◌};
 
@@ -14,7 +14,7 @@ use std::process::Abort;
 use tc_frame::{Check, Segment, SegmentFlags, TcSplitter, Unchecked};
 use tm_link::{Pointer, TmFrame};
 
-// Reads a packet, and writes it: how many octets were read and written.
+// Decodes a packet, encodes it, and returns how many octets were read and written.
 fn packet_again(octets: &[u8], out: &mut [u8]) -> Option<(usize, usize)> {
     match space_packet::decode(octets) {
         Ok((packet, len)) => Some((len, space_packet::encode(&packet, out).ok()?)),
@@ -30,7 +30,7 @@ fn codes_packets(rt: &impl Abort) {
     assert!(rt; is_packet(&P0) && !is_packet(&P0[1..]));
 }
 
-// Reads a frame, and writes it: how many octets were written.
+// Decodes a frame, encodes it, and returns how many octets were written.
 fn frame_again(octets: &[u8], out: &mut [u8]) -> Option<usize> {
     match tc_frame::decode(octets, Check::Off) {
         Ok(frame) => tc_frame::encode(&frame, Check::Off, out).ok(),
@@ -45,7 +45,7 @@ fn codes_frames(rt: &impl Abort) {
     assert!(rt; tc_frame::decode(&DATA, Check::On).is_err());
 }
 
-// Reads a word, and writes it.
+// Decodes a CLCW and encodes it.
 fn word_again(octets: [u8; 4]) -> Option<[u8; 4]> {
     match clcw::decode(octets) {
         Ok(word) => clcw::encode(&word).ok(),
@@ -79,7 +79,7 @@ fn reading_and_writing_takes_no_memory(rt: HostRuntime) {
     counts_packets(&rt);
 }
 
-// The packet with count 3 does not come.
+// Leaves out the packet with count 3.
 fn counts_packets(rt: &impl Abort) {
     let mut counters = SequenceCounters::new();
     let mut gaps = GapCheck::new();
@@ -123,7 +123,7 @@ const LIMITS: Limits = Limits {
     blocking: false,
 };
 
-// The segment hands out nothing, and this is dropped.
+// Checks that the segment completes no packet, and what it drops.
 fn drops(
     rt: &impl Abort,
     assembler: &mut Assembler,

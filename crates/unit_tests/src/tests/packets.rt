@@ -39,7 +39,7 @@ fn written(packet: &Packet<'_>, out: &mut [u8]) -> Result<usize, PacketFault> {
     encode(packet, out)
 }
 
-/// `len` octets. Where memory is refused, it asks again.
+/// Returns `len` octets. If memory is refused, it requests them again.
 pub fn octets_of(rt: &(impl Abort + Eprint), alloc: Global, octet: u8, len: usize) -> Vec<u8>
     ensures { vec_len result ≡ len }
 {
@@ -83,13 +83,13 @@ fn refused_octets(rt: HostRuntime) {
     }
 }
 
-// Feeds. Where memory is refused nothing has changed, and the call made again answers as ever.
+// Feeds the octets. If memory is refused, nothing changes, and the repeated call succeeds.
 fn feed(rt: &(impl Abort + Eprint), splitter: &mut PacketSplitter, octets: &[u8]) {
     let fed = again(rt, PacketFault::Memory, || splitter.feed(octets));
     equal(rt, &fed, &Ok(()));
 }
 
-/// These packets came out.
+/// Checks that these packets, in this order, were extracted.
 pub fn are_packets(rt: &impl Abort, packets: &[Vec<u8>], wanted: &[&[u8]]) {
     equal(rt, &packets.len(), &wanted.len());
     for (place, is) in wanted.iter().enumerate() {
@@ -104,7 +104,7 @@ fn is_packet_at(packets: &[Vec<u8>], place: usize, is: &[u8]) -> bool {
     }
 }
 
-/// The next packet, or the fault of its header.
+/// Checks the next packet, or the fault of its header.
 pub fn hands_out(
     rt: &impl Abort,
     splitter: &mut PacketSplitter,
@@ -113,7 +113,7 @@ pub fn hands_out(
     equal(rt, &splitter.next(), &packet);
 }
 
-/// Whether the stream may end here.
+/// Checks whether the stream may end here.
 pub fn ends(rt: &impl Abort, splitter: &PacketSplitter, answer: Result<(), PacketFault>) {
     equal(rt, &splitter.finish(), &answer);
 }
@@ -139,7 +139,7 @@ fn a_stream_cut_short(rt: HostRuntime) {
     ends(&rt, &splitter, Err(PacketFault::Truncated));
 }
 
-// What any caller knows: the counts of two packets are one apart.
+// Proves, for any caller, that the counts of two packets are one apart.
 fn two_counts(counters: &mut SequenceCounters, apid: u16) -> (u16, u16)
     requires { apid < 2048 }
     ensures { result.1 ≡ (result.0 + 1) % 16384 }
@@ -148,7 +148,7 @@ fn two_counts(counters: &mut SequenceCounters, apid: u16) -> (u16, u16)
     (first, counters.next(apid))
 }
 
-// What any caller knows: a gap is counted from the last packet of its APID.
+// Proves, for any caller, that a gap is counted from the last packet of its APID.
 fn gap_of_two(check: &mut GapCheck, apid: u16, last: u16, count: u16) -> Option<u16>
     requires { apid < 2048 }
     ensures { result ≡ Some (gap_between last count) }

@@ -13,9 +13,9 @@ enum Call {
     Unlock,
     SetVr(u8),
     Released,
-    // What all that is seen is now.
+    // The values that all reading calls return now.
     Stands(Standing),
-    // The report for the virtual channel 2, as octets.
+    // The CLCW for virtual channel 2, as octets.
     Report([u8; 4]),
 }
 
@@ -52,7 +52,7 @@ fn is_restored(rt: &impl Abort, farm: &mut Farm) {
     equal(rt, &farm.fields(), &kept);
 }
 
-// Plays calls on a new receiver of width 10 with this V(R), which is restored after each.
+// Makes calls of a new receiver of width 10 with this V(R), and restores it from its fields after each.
 fn run(rt: &impl Abort, vr: u8, calls: &[Call]) {
     let mut farm = Farm::new(10, vr).expect(rt, "a receiver");
     for call in calls {

@@ -1,10 +1,10 @@
-// What tests say of growths that are refused, in lines on standard error that the gate reads.
+// The lines on standard error by which tests report that growths were refused. tools/refusals reads them.
 
 use super::equal::equal;
 use std::fmt::Debug;
 use std::process::Abort;
 
-/// What a call answers. Where memory is refused it is made again, and answers as ever.
+/// Returns the answer of a call. If memory is refused, it makes the call again.
 pub fn again<T, F: Copy + Debug + PartialEq, C: FnMut() -> Result<T, F>>(
     rt: &(impl Abort + Eprint),
     memory: F,
@@ -21,7 +21,7 @@ pub fn again<T, F: Copy + Debug + PartialEq, C: FnMut() -> Result<T, F>>(
     }
 }
 
-/// A growth was refused, by the fault of want of memory.
+/// Reports a refused growth, and checks that the fault is Memory.
 pub fn says_refused<F: Copy + Debug + PartialEq>(rt: &(impl Abort + Eprint), fault: F, memory: F) {
     let _ = eprintln!(rt; "refused a growth");
     equal(rt, &fault, &memory);

@@ -46,8 +46,8 @@ fn cut_once<'a>(
     cut(octets, 4, limits, segments)
 }
 
-// Cuts. Where memory is refused the segments are as they were, and the call made again answers as
-// ever.
+// Cuts the octets. If the call is refused, the segments do not change; if memory was refused, the call is
+// made again.
 fn cut_on<'a>(
     rt: &(impl Abort + Eprint),
     octets: &'a [u8],
@@ -66,7 +66,7 @@ fn cut_on<'a>(
     answer
 }
 
-// These octets are cut so; the segments.
+// Checks that these octets are cut into these segments, and returns them.
 fn cuts<'a>(
     rt: &(impl Abort + Eprint),
     alloc: Global,
@@ -130,7 +130,7 @@ fn a_long_packet_between_two_short_ones(rt: HostRuntime) {
     cuts(&rt, rt.alloc(), &LONG_BETWEEN, &limits(10, true), &parts);
 }
 
-// Two growths of the list, the second of them within a packet and after a segment that was there.
+// The list grows twice. The second growth is within a packet and after a segment that was there before.
 #[test]
 fn a_packet_octet_by_octet(rt: HostRuntime) {
     let whole = segment(SegmentFlags::Alone, 4, &P0);

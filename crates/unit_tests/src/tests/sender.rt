@@ -23,10 +23,10 @@ const RETRANSMIT: u8 = 0x08;
 enum Call {
     Submit(u8, Result<(), (CopFault, u8)>),
     Direct(Directive, Result<Option<Alert>, CopFault>),
-    // The flags and the value of a report.
+    // The flags and the report value of a CLCW.
     Report(u8, u8, Option<Alert>),
     Tick(Option<Alert>),
-    // The number and the unit, where one is pulled.
+    // The number and the unit, if one is pulled.
     Pull(Option<(u8, u8)>),
 }
 
@@ -40,7 +40,7 @@ fn report(flags: u8, value: u8) -> Clcw {
     }
 }
 
-// A sender of units, and beside it the rules alone, restored after each call.
+// A sender of units and, next to it, the rules by themselves, which are restored after each call.
 #[derive(Drop)]
 struct Both {
     fop: Fop<u8>,
@@ -89,13 +89,13 @@ fn alerts(rt: &impl Abort, alert: Option<Alert>, wanted: Option<Alert>) {
     equal(rt, &alert, &wanted);
 }
 
-// Pulls the unit that is peeked at before.
+// Peeks at the unit, then pulls it.
 fn pulls(rt: &impl Abort, fop: &mut Fop<u8>, answer: Option<(u8, u8)>) {
     equal(rt, &peeked(fop), &answer);
     equal(rt, &pulled(fop), &answer);
 }
 
-// The answers of the rules, which know no units.
+// Returns the answer as the rules give it, without the unit.
 fn without_unit(answer: Result<(), (CopFault, u8)>) -> Result<(), CopFault> {
     match answer {
         Ok(()) => Ok(()),
@@ -194,7 +194,7 @@ fn a_window_is_at_most_half_the_width(rt: HostRuntime) {
     }
 }
 
-// A sender that has sent a unit keeps to these numbers; none has those that differ.
+// A sender that has sent a unit has these numbers; `restore` refuses those that differ.
 #[test]
 fn no_sender_has_other_numbers(rt: HostRuntime) {
     let kept = in_state(&rt, rt.alloc(), FopMode::S1).sender.fields();
@@ -254,7 +254,7 @@ fn others(kept: SenderFields) -> [SenderFields; 12] {
     ]
 }
 
-// As many ticks as a timer of 10, started three times, does not outlast.
+// Lets more ticks pass than a timer of 10 lasts that is started three times.
 fn has_no_timer(rt: &impl Abort, both: &mut Both) {
     for _ in 0..40 {
         run(rt, both, &[Call::Tick(None)]);
@@ -311,7 +311,7 @@ fn a_report_alerts(rt: HostRuntime) {
     }
 }
 
-// With a limit of 2 a timer that ends has the unit sent again first.
+// With a limit of 2, the unit is retransmitted when the timer expires for the first time.
 #[test]
 fn a_timer_ends(rt: HostRuntime) {
     let again = [
@@ -396,10 +396,10 @@ fn a_directive_has_its_states(rt: HostRuntime) {
     }
 }
 
-// The value of a report, and how many of the units from NN(R) to V(S) it says were accepted.
+// The report value of a CLCW, and how many units from NN(R) to V(S) it shows to be accepted.
 type Says = (u8, Option<u8>);
 
-// NN(R), V(S), and what reports say.
+// NN(R), V(S), and what CLCWs show.
 const SAYS: [(u8, u8, &[Says]); 4] = [
     (
         3,
@@ -445,7 +445,7 @@ fn a_report_says_what_was_accepted(rt: HostRuntime) {
     }
 }
 
-// An alert leaves both numbers, so that later reports say what was accepted; an initiation ends this.
+// An alert changes neither number, so later CLCWs show what was accepted. An initiation ends this.
 #[test]
 fn a_report_after_an_alert_says_what_was_accepted(rt: HostRuntime) {
     let mut both = in_state(&rt, rt.alloc(), FopMode::S6);
@@ -461,8 +461,7 @@ fn a_report_after_an_alert_says_what_was_accepted(rt: HostRuntime) {
     }
 }
 
-// Where memory is refused, nothing has changed, and the same call is answered as ever once there is
-// some.
+// If memory is refused, nothing changes, and the same call succeeds once there is memory.
 #[test]
 fn a_sender_does_without_memory(rt: HostRuntime) {
     let mut fop = new_fop(&rt, rt.alloc());
@@ -479,7 +478,7 @@ fn new_fop(rt: &(impl Abort + Eprint), alloc: Global) -> Fop<u8> {
     again(rt, CopFault::Memory, || Fop::new(alloc, 254, 127, 3, 10)).expect(rt, "a sender")
 }
 
-// The unit is its number among those that pass the sequence control.
+// Sends a unit by bypass; its value is its number among them.
 fn bypasses(rt: &(impl Abort + Eprint), fop: &mut Fop<u8>, unit: u8) {
     if let Err(refused) = fop.bypass(unit) {
         says_refused(rt, refused, (CopFault::Memory, unit));

@@ -1,4 +1,4 @@
-// A splitter over a layout of the tests' own, each of whose growths is refused in turn.
+// A splitter over a layout of these tests. Each of its growths is refused in turn.
 
 ghost use Rattle.std.specs.Prelude.{◌≡◌, ◌≤◌, List, ℕ, length, nat_lt, if◌then◌else◌, slice_index, Ok, Err};
 ghost use Rattle.std.proofs.Common.{rules};
@@ -17,7 +17,7 @@ enum BlockFault {
     Memory,
 }
 
-// Records whose first octet is their length.
+// A layout of records whose first octet is their length.
 struct Blocks;
 
 impl Wire for Blocks {
@@ -72,7 +72,7 @@ fn a_front_is_removed(rt: HostRuntime) {
     }
 }
 
-// Whether the splitter waits for octets, and whether the stream may end.
+// Returns whether the splitter waits for octets, and whether the stream may end.
 fn seen(splitter: &mut Splitter<Blocks>) -> (bool, Result<(), BlockFault>) {
     (splitter.next().is_none(), splitter.finish())
 }
@@ -81,7 +81,7 @@ fn feed_once(splitter: &mut Splitter<Blocks>, octets: &[u8]) -> Result<(), Block
     splitter.feed(octets)
 }
 
-// Feeds. Where memory is refused nothing has changed, and the call made again answers as ever.
+// Feeds the octets. If memory is refused, nothing changes, and the repeated call succeeds.
 fn feed(rt: &(impl Abort + Eprint), splitter: &mut Splitter<Blocks>, octets: &[u8]) {
     let before = seen(splitter);
     if let Err(fault) = feed_once(splitter, octets) {
@@ -91,7 +91,7 @@ fn feed(rt: &(impl Abort + Eprint), splitter: &mut Splitter<Blocks>, octets: &[u
     }
 }
 
-// The next record, or the fault of its extent.
+// Checks the next record, or the fault of its extent.
 fn hands_out(
     rt: &impl Abort,
     splitter: &mut Splitter<Blocks>,
@@ -100,7 +100,7 @@ fn hands_out(
     equal(rt, &splitter.next(), &record);
 }
 
-// Whether the stream may end here.
+// Checks whether the stream may end here.
 fn ends(rt: &impl Abort, splitter: &Splitter<Blocks>, answer: Result<(), BlockFault>) {
     equal(rt, &splitter.finish(), &answer);
 }
@@ -108,7 +108,7 @@ fn ends(rt: &impl Abort, splitter: &Splitter<Blocks>, answer: Result<(), BlockFa
 // Three blocks and the beginning of a fourth.
 const STREAM: [u8; 8] = [2, 7, 1, 3, 8, 9, 4, 1];
 
-// The three blocks, and that the fourth is cut short.
+// Checks that the three blocks are delivered, and that the fourth is cut short.
 fn hands_out_three(rt: &impl Abort, splitter: &mut Splitter<Blocks>) {
     for block in [&STREAM[..2], &STREAM[2..3], &STREAM[3..6]] {
         hands_out(rt, splitter, Some(Ok(block)));
@@ -157,8 +157,8 @@ fn a_refused_extent_is_for_good(rt: HostRuntime) {
     ends(&rt, &splitter, Ok(()));
 }
 
-// Three growths, the last of them where octets that were handed out are dropped. Each octet is 100,
-// so each block has 100 of them.
+// The splitter grows three times, the last time when octets already delivered are dropped. Each octet is
+// 100, so each block has 100 octets.
 #[test]
 fn a_stream_outgrows_its_memory(rt: HostRuntime) {
     let mut splitter: Splitter<Blocks> = Splitter::new(rt.alloc());

@@ -1,4 +1,4 @@
-// Frames in octets, worked by hand.
+// Telemetry frames, in octets worked by hand.
 
 use super::equal::equal;
 use super::packets::{are_packets, octets_of};
@@ -8,7 +8,7 @@ use std::process::Abort;
 use tm_link::Gap::{First, Lost};
 use tm_link::*;
 
-// The frame of only idle data with 16 octets, before its check.
+// The frame of only idle data with 16 octets, without its FECF.
 const IDLE: [u8; 14] = [
     0x00, 0x11, 0x00, 0x00, 0x1f, 0xfe, 0x55, 0x55, 0x55, 0x55, 0x01, 0x08, 0x00, 0x00,
 ];
@@ -26,7 +26,7 @@ const LONG: [u8; 16] = [
     0x00, 0x05, 0xc0, 0x00, 0x00, 0x09, 0xaa, 0xaa, 0xaa, 0xaa, 0xaa, 0xaa, 0xaa, 0xaa, 0xaa, 0xaa,
 ];
 
-/// A frame whose counts are 0, with this pointer.
+/// Returns a frame with this pointer and with counts of 0.
 pub fn frame(pointer: Pointer) -> TmFrame<'static> {
     TmFrame {
         scid: 1,
@@ -50,7 +50,8 @@ fn headers(rt: HostRuntime) {
     }
 }
 
-// A frame with this pointer has a header that ends so. Octets past it stay.
+// Checks that the header of a frame with this pointer ends with these octets. Octets after the frame do not
+// change.
 fn is_spelled(rt: &impl Abort, pointer: Pointer, last: &[u8]) {
     let mut out = [0xee_u8; 20];
     equal(rt, &written(pointer, &mut out), &Some(16));
@@ -68,7 +69,7 @@ fn reads(rt: &impl Abort, octets: &[u8], frame: TmFrame<'_>) {
     equal(rt, &decode(octets, octets.len()), &Ok(frame));
 }
 
-// Writes a frame: how many octets it has.
+// Writes a frame with this pointer and returns its length.
 fn written(pointer: Pointer, out: &mut [u8]) -> Option<usize> {
     encode(&frame(pointer), out).ok()
 }
@@ -136,7 +137,7 @@ fn refusals(rt: HostRuntime) {
     );
 }
 
-// A builder of frames of this length, with these packets queued.
+// Returns a builder of frames of this length, with these packets queued.
 fn builder_of(
     rt: &(impl Abort + Eprint),
     alloc: Global,
@@ -150,7 +151,7 @@ fn builder_of(
     builder
 }
 
-// The data field and the pointer of each frame that a builder of frames of 20 octets makes of packets.
+// Checks the data field and the pointer of each frame of 20 octets that a builder makes of packets.
 fn builds(
     rt: &(impl Abort + Eprint),
     alloc: Global,
@@ -169,7 +170,7 @@ fn builds(
     }
 }
 
-// The next frame, of 20 octets, is this one. Octets past it stay.
+// Checks that the next frame, of 20 octets, is this one. Octets after it do not change.
 fn builds_one(rt: &impl Abort, builder: &mut TmBuilder, frame: TmFrame<'_>) {
     let mut out = [0xee; 2048];
     assert_eq!(rt; builder.build(frame.ocf, &mut out), 20);
@@ -177,13 +178,13 @@ fn builds_one(rt: &impl Abort, builder: &mut TmBuilder, frame: TmFrame<'_>) {
     reads(rt, &out[..20], frame);
 }
 
-// Queues. Where memory is refused nothing has changed, and the call made again answers as ever.
+// Queues a packet. If memory is refused, nothing changes, and the repeated call succeeds.
 fn queue(rt: &(impl Abort + Eprint), builder: &mut TmBuilder, packet: &[u8]) {
     let queued = again(rt, TmFault::Memory, || builder.queue(packet));
     equal(rt, &queued, &Ok(()));
 }
 
-// The frames of FOUR: the last ends in an idle packet, which goes on in a next one.
+// The frames of FOUR. The last ends within an idle packet, which continues in the next frame.
 const FRAMES_OF_FOUR: [(&[u8; 8], Pointer); 4] = [
     (b"\x00\x05\xc0\x00\x00\x00\xaa\x00", Pointer::At(0)),
     (b"\x05\xc0\x01\x00\x00\xbb\x00\x05", Pointer::At(6)),
@@ -191,7 +192,7 @@ const FRAMES_OF_FOUR: [(&[u8; 8], Pointer); 4] = [
     (b"\x03\x00\x00\xdd\x07\xff\xc0\x00", Pointer::At(4)),
 ];
 
-// The frames of the first of them, with idle packets after it.
+// The frames of the first packet of FOUR, with idle packets after it.
 const FRAMES_OF_ONE: [(&[u8; 8], Pointer); 8] = [
     (b"\x00\x05\xc0\x00\x00\x00\xaa\x07", Pointer::At(0)),
     (b"\xff\xc0\x00\x00\x00\x55\x07\xff", Pointer::At(6)),
@@ -255,7 +256,7 @@ fn pointer_of(octets: &[u8]) -> Option<Pointer> {
     }
 }
 
-// The frames of a builder on their way to an extractor, and the packets that came out.
+// A builder, an extractor for its frames, and the packets that were extracted.
 #[derive(Drop)]
 struct Passage {
     builder: TmBuilder,
@@ -271,12 +272,12 @@ fn passage_from(rt: &(impl Abort + Eprint), alloc: Global, builder: TmBuilder) -
     }
 }
 
-// A new extractor. Where memory is refused the call made again answers as ever.
+// Returns a new extractor. If memory is refused, the call is made again.
 fn extractor(rt: &(impl Abort + Eprint), alloc: Global) -> Extractor {
     again(rt, TmFault::Memory, || Extractor::new(alloc)).expect(rt, "an extractor")
 }
 
-// Takes a frame. Where memory is refused nothing has changed, and the call made again answers as ever.
+// Takes a frame. If memory is refused, no packet is added, and the call is made again.
 fn take(rt: &(impl Abort + Eprint), passage: &mut Passage, octets: &[u8]) -> Result<Gap, TmFault> {
     let frame = decode(octets, octets.len())?;
     let count = passage.found.len();
@@ -290,7 +291,8 @@ fn take(rt: &(impl Abort + Eprint), passage: &mut Passage, octets: &[u8]) -> Res
     }
 }
 
-// The gap and the number of packets after each of these frames of a builder, and the packets in the end.
+// Checks the gap and the number of packets after each of these frames of a builder, and the packets at the
+// end.
 fn extracts(
     rt: &(impl Abort + Eprint),
     alloc: Global,
@@ -305,7 +307,7 @@ fn extracts(
     are_packets(rt, passage.found.as_slice(), wanted);
 }
 
-// The builder's next frame, which has this number, is taken if it is among those that are chosen.
+// Builds the next frame, which has this number, and takes it if it is among the chosen ones.
 fn extracts_one(
     rt: &(impl Abort + Eprint),
     passage: &mut Passage,
@@ -321,7 +323,7 @@ fn extracts_one(
     }
 }
 
-// The gap before a frame of 20 octets, and the number of packets once it is taken.
+// Takes a frame of 20 octets, and checks the gap before it and the number of packets after it.
 fn finishes(
     rt: &(impl Abort + Eprint),
     passage: &mut Passage,
@@ -415,14 +417,14 @@ fn goes_across(rt: &(impl Abort + Eprint), alloc: Global, packet: &[u8]) {
     are_packets(rt, passage.found.as_slice(), &[packet]);
 }
 
-// A frame of 2,048 octets is built and taken.
+// Builds a frame of 2,048 octets and takes it.
 fn goes_on(rt: &(impl Abort + Eprint), passage: &mut Passage) {
     let mut out = [0; 2048];
     equal(rt, &passage.builder.build([0; 4], &mut out), &2048);
     assert!(rt; take(rt, passage, &out).is_ok());
 }
 
-// A packet on its way across two frames, the first of which is taken.
+// A packet spans two frames, and the first of them is taken.
 #[test]
 fn building_and_waiting_takes_no_memory(rt: HostRuntime) {
     let packet = [0x00, 0x05, 0xc0, 0x00, 0x00, 0x02, 0xaa, 0xab, 0xac];

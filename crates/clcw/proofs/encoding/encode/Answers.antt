@@ -1,4 +1,4 @@
--- What is written spells the word, and so it is read as the word.
+-- What is written spells the CLCW, so it is read as this CLCW.
 use Rattle.std.proofs.Common.{◌≡◌, ℕ, ◌+◌, ◌*◌, ◌/◌, ◌%◌, true, eqb, List, Ok, refl, arith}
 use Rattle.std.proofs.lemmas.Bool.{eq-eqb}
 use Rattle.clcw.specs.declared.word.Clcw.{Clcw}
@@ -7,7 +7,7 @@ use Rattle.clcw.specs.Layout.{IsClcw}
 use Rattle.clcw.specs.Decoding.{clcw_at}
 use Rattle.clcw.proofs.encoding.encode.Goals as goal
 
--- Octets that spell a control word are read as that word.
+-- Octets that spell a CLCW are read as that CLCW.
 read_again : (word : Clcw) (octets : List ℕ) → IsClcw word octets → clcw_at octets ≡ Ok word
 unfolding clcw_at
 read_again word octets is =

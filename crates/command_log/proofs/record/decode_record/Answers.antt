@@ -8,7 +8,7 @@ use Rattle.command_log.proofs.record.decode_record.Goals as goal
 
 pub returns-then-ne-clause-only : goal.returns-then-ne-clause-only
 returns-then-ne-clause-only c kept is e =
-    let read : c.fields_at-kept.result ≡ kept = c.fields_at-kept.ensures ∙ ap fields_of e ∙ read_back kept is in
+    let read : c.decode_fields-kept.result ≡ kept = c.decode_fields-kept.ensures ∙ ap fields_of e ∙ read_back kept is in
     let same : c.encode_record.result ≡ c.args.octets.now = c.encode_record.ensures ∙ ap place_octets read ∙ sym e in
     let alike_too : pointwise eqb c.encode_record.result c.args.octets.now ≡ true =
     subst (λ (xs : List ℕ). pointwise eqb xs c.args.octets.now ≡ true) (sym same) (alike c.args.octets.now) in
@@ -19,10 +19,10 @@ returns-then-ne-clause-only c kept is e =
 
 pub returns-then-ne-clause-answer : goal.returns-then-ne-clause-answer
 returns-then-ne-clause-answer c =
-    found_record c.args.octets.now c.encode_record.result c.fields_at-kept.result true
-    (omega (arith, c.if-octets-ne50.false)) c.fields_at-kept.ensures c.encode_record.ensures c.if-ne.ensures
+    found_record c.args.octets.now c.encode_record.result c.decode_fields-kept.result true
+    (omega (arith, c.if-octets-ne50.false)) c.decode_fields-kept.ensures c.encode_record.ensures c.if-ne.ensures
 
 pub returns-clause-answer : goal.returns-clause-answer
 returns-clause-answer c =
-    found_record c.args.octets.now c.encode_record.result c.fields_at-kept.result false
-    (omega (arith, c.if-octets-ne50.false)) c.fields_at-kept.ensures c.encode_record.ensures c.if-ne.ensures
+    found_record c.args.octets.now c.encode_record.result c.decode_fields-kept.result false
+    (omega (arith, c.if-octets-ne50.false)) c.decode_fields-kept.ensures c.encode_record.ensures c.if-ne.ensures

@@ -2,7 +2,7 @@ use Rattle.std.proofs.Common.{length, ℕ, ◌-◌, List, [], ◌∷◌, ◌++�
 use Rattle.command_log.specs.Check.{sealed}
 use Rattle.command_log.proofs.status.spelled.Goals as goal
 
--- four octets more, and then the check over those before them
+-- four more octets, replaced by the check of the octets before them
 with_check : List ℕ → List ℕ
 with_check front = let octets = front ++ 0 ∷ 0 ∷ 0 ∷ 0 ∷ [] in sealed (take (length octets - 4) octets)
 

@@ -1,4 +1,4 @@
--- `end` lets go of null.
+-- `end` discards null.
 use Rattle.std.proofs.Common.{◌≡◌, List, [], ◌∷◌, ◌++◌, refl, sym, subst}
 use mir.Syntax.{a_type}
 use mir.Val.{Val, vunit}

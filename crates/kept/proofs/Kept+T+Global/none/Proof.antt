@@ -1,4 +1,4 @@
--- `none` puts null beside the handle.
+-- `none` puts null next to the handle.
 use Rattle.std.proofs.Common.{◌≡◌, List, [], ◌∷◌, ◌++◌, refl, sym, subst}
 use mir.Syntax.{a_type}
 use mir.Val.{Val}

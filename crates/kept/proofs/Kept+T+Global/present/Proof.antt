@@ -1,4 +1,4 @@
--- `present` looks whether the pointer is null.
+-- `present` checks whether the pointer is null.
 use Rattle.std.proofs.Common.{◌≡◌, List, [], ◌∷◌, ◌++◌, refl, sym, ap, subst, lit<}
 use mir.Syntax.{a_type, ptr_eq}
 use mir.Val.{Val, vcons, vnil, vnull, op2_val}

@@ -11,7 +11,8 @@ use tc_link::{Event, Reply, Sim};
 
 const COUNT: usize = 600;
 
-// Packets on MAP 4, each with its sequence count, after the same octets: none, or the segment header of their frames.
+// Returns packets on MAP 4, each with its sequence count, after `head`: nothing, or the segment header of
+// their frames.
 fn packets_after(rt: &impl Abort, alloc: Global, head: &[u8]) -> Vec<Vec<u8>> {
     let mut packets = Vec::new(alloc);
     for place in 0..COUNT {
@@ -34,7 +35,7 @@ fn packet(place: usize) -> [u8; 7] {
     [0x10, 0x05, 0xc0 | high, low, 0x00, 0x00, 0xaa]
 }
 
-// How long the lists were when they were compared.
+// The lengths of the lists at their last comparison.
 #[derive(Clone, Copy)]
 struct Lengths {
     submitted: usize,
@@ -44,7 +45,8 @@ struct Lengths {
 }
 
 impl Lengths {
-    // No list has passed the one that it follows, with these numbers of frames acknowledged and packets taken.
+    // Returns whether no list is longer than the one that it follows, given the acknowledged frames and taken
+    // packets.
     fn are_ordered(self, acknowledged: usize, taken: usize) -> bool {
         self.sent <= self.submitted
             && self.accepted <= self.sent
@@ -54,7 +56,7 @@ impl Lengths {
     }
 }
 
-// A link, the packets and their data fields, how many frames were sent, and how many packets were taken.
+// A link, the packets and their data fields, and how many frames were sent and packets taken.
 #[derive(Drop)]
 struct Carrier<'a> {
     sim: Sim,
@@ -65,7 +67,7 @@ struct Carrier<'a> {
     taken: usize,
 }
 
-// Whether a list goes on, from this place, as the other does.
+// Returns whether a list continues from this place as the other does.
 fn goes_on(list: &[Vec<u8>], place: usize, all: &[Vec<u8>]) -> bool {
     match (list.get(place..), all.get(place..)) {
         (Some(more), Some(rest)) => rest.starts_with(more),
@@ -87,7 +89,7 @@ fn lengths_of(sim: &Sim) -> Lengths {
 }
 
 impl Carrier<'_> {
-    // Lets an event happen, compares the lists, and says whether this is the reply.
+    // Lets an event happen, compares the lists, and returns whether this is the reply.
     fn answers(&mut self, rt: &impl Abort, event: Event<'_>, reply: &Reply) -> bool {
         let given = step(&mut self.sim, event).expect(rt, "a reply");
         self.looks_at(rt, &given);
@@ -103,7 +105,7 @@ impl Carrier<'_> {
         let _ = self.answers(rt, event, &Reply::Nothing);
     }
 
-    // A packet that is taken is the next.
+    // Checks that a packet that is taken is the next one.
     fn looks_at(&mut self, rt: &impl Abort, reply: &Reply) {
         if let Reply::Packet(map, octets) = reply {
             equal(
@@ -115,8 +117,8 @@ impl Carrier<'_> {
         }
     }
 
-    // What was submitted and delivered are these packets in their order, what was sent and accepted
-    // their data fields; and no list has passed the one that it follows.
+    // Checks that these packets, in their order, were submitted and delivered, and that their data fields
+    // were sent and accepted. No list may be longer than the one that it follows.
     fn compares(&mut self, rt: &impl Abort) {
         assert!(rt; self.go_on());
         let new = lengths_of(&self.sim);
@@ -133,7 +135,7 @@ impl Carrier<'_> {
             && goes_on(sim.accepted(), old.accepted, self.fields)
     }
 
-    // Sends one frame after another, while there is one, and at most this many. Every seventh is lost.
+    // Sends frames while there are any, and at most this many. Every seventh is lost.
     fn sends(&mut self, rt: &impl Abort, most: usize) {
         for _ in 0..most {
             if self.answers(rt, Event::Send, &Reply::Nothing) {
@@ -153,7 +155,7 @@ impl Carrier<'_> {
         }
     }
 
-    // Whether the report of now acknowledges more.
+    // Sends the current CLCW down, and returns whether it acknowledges more.
     fn reports(&mut self, rt: &impl Abort) -> bool {
         let before = self.sim.acknowledged();
         self.happens(rt, Event::Report);
@@ -168,8 +170,8 @@ impl Carrier<'_> {
         }
     }
 
-    // Fills the window, and then sends ten frames to a report, until all is acknowledged. Where a report
-    // acknowledges nothing the timer ends.
+    // Fills the window, and then sends ten frames for each CLCW, until all packets are acknowledged. If a
+    // CLCW acknowledges nothing, the timer expires.
     fn carries(&mut self, rt: &impl Abort) {
         self.sends(rt, COUNT);
         for _ in 0..COUNT {
@@ -183,7 +185,7 @@ impl Carrier<'_> {
         }
     }
 
-    // Begins a session, and carries each packet.
+    // Begins a session, and carries all packets.
     fn runs(&mut self, rt: &impl Abort) {
         let begin = Event::Directive(Directive::InitWithoutCheck);
         self.replies(rt, begin, &Reply::Done);

@@ -1,5 +1,5 @@
-// Two links to which the same happens. Where one is refused memory nothing of it has changed, which the other
-// shows, and the call made again answers as ever.
+// Two links with the same events. If memory is refused to one of them, it has not changed, as the other
+// shows, and the repeated call succeeds.
 
 use super::step;
 use crate::tests::common::{equal, says_refused};
@@ -8,8 +8,8 @@ use std::alloc::Global;
 use std::process::Abort;
 use tc_link::{Config, Event, Reply, Sim, SimFault, run};
 
-/// The state, and how many packets were submitted and delivered on MAP 4, frames sent, accepted and acknowledged,
-/// and segments not acknowledged.
+/// The state, and the numbers of packets submitted and delivered on MAP 4, of frames sent, accepted and
+/// acknowledged, and of segments not acknowledged.
 pub type Records = (FopMode, [usize; 6]);
 
 pub fn records_of(sim: &Sim) -> Records {
@@ -24,7 +24,7 @@ pub fn records_of(sim: &Sim) -> Records {
     (sim.state(), numbers)
 }
 
-// A new link. Where memory is refused the call made again answers as ever.
+// Returns a new link. If memory is refused, the call is made again.
 fn new_link(rt: &(impl Abort + Eprint), alloc: Global, config: Config) -> Sim {
     match Sim::new(alloc, config) {
         Err(fault) => {
@@ -35,7 +35,7 @@ fn new_link(rt: &(impl Abort + Eprint), alloc: Global, config: Config) -> Sim {
     }
 }
 
-// A link after a whole run. Where memory is refused the run made again answers as ever.
+// Returns a link after a whole run. If memory is refused, the run is repeated.
 fn run_link(
     rt: &(impl Abort + Eprint),
     alloc: Global,
@@ -51,7 +51,7 @@ fn run_link(
     }
 }
 
-// All that the reading calls of two links show is the same.
+// Checks that all reading calls of two links return the same.
 fn are_alike(rt: &impl Abort, one: &Sim, other: &Sim) {
     equal(rt, &records_of(one), &records_of(other));
     equal(
@@ -76,7 +76,7 @@ fn have_same_lists(rt: &impl Abort, one: &Sim, other: &Sim) {
     assert!(rt; one.sent() == other.sent() && one.accepted() == other.accepted());
 }
 
-// Whether an event may want memory.
+// Returns whether an event may request memory.
 fn takes_memory(event: Event<'_>) -> bool {
     matches!(
         event,
@@ -90,8 +90,8 @@ fn takes_memory(event: Event<'_>) -> bool {
     )
 }
 
-// Lets an event happen to a link. Where memory is refused it is still as the other, if that is given, and the
-// call is made again; an event that takes no memory answers at once.
+// Lets an event happen to a link. If memory is refused, this compares the link with the other, if that is
+// given, and makes the call again. An event that takes no memory is answered at once.
 fn bears(
     rt: &(impl Abort + Eprint),
     sim: &mut Sim,
@@ -110,7 +110,8 @@ fn bears(
     }
 }
 
-/// Two new links answer the events alike, so does a whole run of them, and these are the records then.
+/// Checks that two new links and a whole run answer the events alike, and that these are the records
+/// afterwards.
 pub fn bear(
     rt: &(impl Abort + Eprint),
     alloc: Global,

@@ -1,4 +1,4 @@
-// Sessions in which each growth is refused in turn. What they answer stands in rows/sim at the top.
+// Sessions in which each growth is refused in turn. The rows in rows/sim test what they answer.
 
 use super::twins::bear;
 use crate::tests::common::{ends_growths, with_parts, with_value};
@@ -7,7 +7,7 @@ use cop1::{Directive, FopMode};
 use nodes::Parameter;
 use tc_link::Event;
 
-// A frame is lost, and the frames from it on are sent again.
+// A frame is lost, and the frames from it on are retransmitted.
 static ONE_FRAME_LOST: [Event<'static>; 20] = [
     Event::Directive(Directive::InitWithCheck),
     Event::Report,
@@ -31,7 +31,7 @@ static ONE_FRAME_LOST: [Event<'static>; 20] = [
     Event::DownDeliver,
 ];
 
-// A packet passes the sequence control, and one comes as telemetry.
+// One packet is sent by bypass, and one as telemetry.
 static BOTH_WAYS: [Event<'static>; 8] = [
     Event::Bypass(4, &P0),
     Event::Send,
@@ -43,7 +43,7 @@ static BOTH_WAYS: [Event<'static>; 8] = [
     Event::Send,
 ];
 
-// Each event that takes no memory, where there is nothing in transit too.
+// Each event that takes no memory, also if nothing is in transit.
 static WITHOUT_MEMORY: [Event<'static>; 21] = [
     Event::Directive(Directive::InitWithoutCheck),
     Event::Submit(4, &P0),
@@ -68,7 +68,7 @@ static WITHOUT_MEMORY: [Event<'static>; 21] = [
     Event::Resume(1),
 ];
 
-// Each refusal leaves the link as it was. A run goes on after it, and answers to each event.
+// No refusal changes the link. A run continues after it, and answers each event.
 static REFUSALS: [Event<'static>; 8] = [
     Event::Submit(4, &P0),
     Event::UpDeliver,
@@ -95,7 +95,7 @@ fn sessions_without_memory(rt: HostRuntime) {
     ends_growths(&rt, rt.alloc());
 }
 
-// Segments have at most 14 octets, so two packets and one.
+// Segments have at most 14 octets, so the first has two packets and the second has one.
 static THREE_PACKETS: [Event<'static>; 11] = [
     Event::Directive(Directive::InitWithoutCheck),
     Event::Submit(4, &THREE),
@@ -110,7 +110,7 @@ static THREE_PACKETS: [Event<'static>; 11] = [
     Event::Take,
 ];
 
-// Segments have at most 3 octets, so a packet is in three.
+// Segments have at most 3 octets, so each packet has three segments.
 static THREE_SEGMENTS: [Event<'static>; 13] = [
     Event::Directive(Directive::InitWithoutCheck),
     Event::Submit(4, &P0),

@@ -1,4 +1,4 @@
-// A ground that goes on where another was lost, at what was kept of it.
+// A ground that continues from the record of another, which was lost.
 
 use super::ground::{Ask, asks};
 use super::{Node, Standing, plays};
@@ -10,8 +10,8 @@ use std::alloc::Global;
 use std::process::Abort;
 use tc_link::{Config, Ground};
 
-// Of three packets with two segments each, which are all sent, three segments are acknowledged: one packet, and the
-// first segment of the next.
+// Returns the record of a ground that sent three packets of two segments each. Three segments are
+// acknowledged: one packet, and the first segment of the next.
 fn record() -> KeptGround {
     let mut segments = [0; 127];
     segments[0] = 1;
@@ -26,7 +26,7 @@ fn record() -> KeptGround {
     }
 }
 
-// A ground that is opened at this record.
+// A ground that is opened at that record.
 #[derive(Drop)]
 struct Another {
     ground: Ground,
@@ -47,7 +47,7 @@ impl<'a> Node<(Ask<'a>, Standing)> for Another {
     }
 }
 
-// It is as the one that was lost after an alert: it knows what is on board, resumes, and begins by Unlock.
+// The ground is like the lost one after an alert. It knows what is on board, resumes, and begins with Unlock.
 #[test]
 fn goes_on(rt: HostRuntime) {
     use FopMode::{S1, S5, S6};
@@ -82,7 +82,7 @@ fn goes_on(rt: HostRuntime) {
     plays::<Another, (Ask<'_>, Standing)>(&rt, rt.alloc(), &with_parts(4, 0), &rows);
 }
 
-// What is kept of a ground: nothing of packets that were not sent whole.
+// Checks the record of a ground, which contains nothing of packets that were not sent whole.
 #[test]
 fn is_kept(rt: HostRuntime) {
     use FopMode::{S1, S6};
@@ -143,8 +143,9 @@ fn is_kept(rt: HostRuntime) {
     asks(&rt, rt.alloc(), &with_parts(4, 0), &rows);
 }
 
-// Records that no ground gives are refused: V(S) too far above NN(R), or below it; more submissions than were sent
-// whole with the segments, or than the record has; and something after them. The last one is given.
+// `open_at` refuses records that no ground returns: V(S) too far above NN(R) or below it, a wrong number of
+// submissions for the segments or more than a record can have, and something after the last. It accepts the
+// unchanged record.
 #[test]
 fn is_refused(rt: HostRuntime) {
     let config = Config {

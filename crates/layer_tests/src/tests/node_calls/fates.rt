@@ -1,4 +1,4 @@
-// How far the submissions of a session have come, and how the next one begins after an alert.
+// The progress of a session's submissions, and how the next session begins after an alert.
 
 use super::ground::{Ask, asks};
 use crate::tests::common::with_parts;
@@ -12,7 +12,7 @@ const TERMINATE: Ask<'static> = Ask::Directive(Directive::Terminate, Ok(Some(Ale
 
 const NOT_KNOWN: Result<u64, LinkFault> = Err(LinkFault::NotKnown);
 
-// A report of this value, by which no alert comes.
+// A CLCW with this report value, which raises no alert.
 fn report(value: u8) -> Ask<'static> {
     Ask::Clcw(
         [0x01, 0x08, 0x00, value],
@@ -23,7 +23,7 @@ fn report(value: u8) -> Ask<'static> {
     )
 }
 
-// The flags of a report's third octet, of which none is set, or one (CCSDS 232.0-B-4, 4.2.1).
+// The third octet of a CLCW with no flag or with one flag set (CCSDS 232.0-B-4, 4.2.1).
 const NONE: u8 = 0x00;
 
 const LOCKOUT: u8 = 0x20;
@@ -32,7 +32,7 @@ const WAIT: u8 = 0x10;
 
 const RETRANSMIT: u8 = 0x08;
 
-// A report with such flags and this value, by which this alert comes.
+// A CLCW with such flags and this report value, which raises this alert.
 fn alerts(flags: u8, value: u8, alert: Alert) -> Ask<'static> {
     Ask::Clcw(
         [0x01, 0x08, flags, value],
@@ -43,7 +43,7 @@ fn alerts(flags: u8, value: u8, alert: Alert) -> Ask<'static> {
     )
 }
 
-// Each packet is two segments, with numbers 0 and 1, 2 and 3, 4 and 5. Three of them are acknowledged.
+// Each packet has two segments, with numbers 0 and 1, 2 and 3, 4 and 5. Three segments are acknowledged.
 #[test]
 fn submissions_of_two_segments(rt: HostRuntime) {
     use FopMode::{S1, S5, S6};
@@ -95,8 +95,8 @@ fn submissions_of_two_segments(rt: HostRuntime) {
     asks(&rt, rt.alloc(), &with_parts(4, 0), &rows);
 }
 
-// Nothing is known once V(S) is set, up to the next initiation. A directive that is refused changes nothing;
-// nor does one that sets no number.
+// Once V(S) is set, nothing is known until the next initiation. Neither a refused directive nor one that sets
+// no number changes anything.
 #[test]
 fn a_number_is_set(rt: HostRuntime) {
     use FopMode::{S1, S5, S6};
@@ -127,8 +127,9 @@ fn a_number_is_set(rt: HostRuntime) {
     asks(&rt, rt.alloc(), &with_parts(4, 0), &rows);
 }
 
-// After an alert that shows a broken condition nothing is known, up to the next initiation; what was counted
-// stands. A value that no report of the session has is such an alert, and so is one that asks for nothing.
+// After an alert that shows a broken condition, nothing is known until the next initiation; the counts do not
+// change. A CLCW raises such an alert if no CLCW of the session can have its report value, or if it requests
+// nothing.
 #[test]
 fn a_condition_is_broken(rt: HostRuntime) {
     use FopMode::{S1, S5, S6};
@@ -161,7 +162,8 @@ fn a_condition_is_broken(rt: HostRuntime) {
     asks(&rt, rt.alloc(), &with_parts(4, 0), &rows);
 }
 
-// One that may be sent once is asked for again: losses alone bring it, and what is on board is known.
+// A retransmission is requested of a segment that may be sent once. Losses suffice for this alert, so it is
+// known what is on board.
 #[test]
 fn the_limit_is_reached(rt: HostRuntime) {
     use FopMode::{S1, S5, S6};
@@ -183,8 +185,8 @@ fn the_limit_is_reached(rt: HostRuntime) {
     asks(&rt, rt.alloc(), &with_parts(4, 0), &rows);
 }
 
-// Three packets are two segments, of two packets and of one; the next submission is one segment. What goes
-// past the sequence control counts for nothing.
+// Three packets have two segments, one with two packets and one with one; the next submission has one
+// segment. Packets sent by bypass are not counted.
 #[test]
 fn submissions_of_several_packets(rt: HostRuntime) {
     use FopMode::{S1, S5, S6};

@@ -1,4 +1,4 @@
-// The node on the ground.
+// Calls of the ground node.
 
 use super::{Node, plays};
 use crate::tests::common::{answer_of, equal, says_refused, with_parts, with_value};
@@ -25,21 +25,21 @@ pub enum Ask<'a> {
     Clcw([u8; 4], HeardClcw),
     TakeTelemetry(Option<&'a [u8]>),
     ForgetTelemetry,
-    // What a report of this value says was accepted.
+    // How many segments a CLCW with this report value shows to be accepted.
     AcceptedBeyond(u8, Option<u8>),
-    // How many submissions there are, how many were sent whole, and how many are acknowledged whole.
+    // The numbers of submissions, of those sent whole, and of those acknowledged whole.
     Counts([u64; 3]),
-    // What a report of this value says is on board whole.
+    // How many submissions a CLCW with this report value shows to be on board whole.
     KnownOnBoard(u8, Option<u64>),
     Resume(u8, Result<u64, LinkFault>),
-    // What is kept of it.
+    // The record of the ground.
     Kept(&'a KeptGround),
-    // How many segments wait for their first time and how many again, how many bypass packets wait, the ticks
-    // that are left, and the transmission count.
+    // The numbers of segments not sent yet, of segments due again and of bypass packets, the ticks that are
+    // left, and the transmission count.
     Waits([usize; 3], Option<u16>, u8),
 }
 
-/// The sender's state, V(S), NN(R), and how many segments are not acknowledged.
+/// The sender's state, V(S), NN(R), and the number of segments not acknowledged.
 pub type Standing = (FopMode, u8, u8, usize);
 
 impl<'a> Node<(Ask<'a>, Standing)> for Ground {
@@ -98,7 +98,7 @@ fn counts(ground: &Ground) -> [u64; 3] {
     ]
 }
 
-// Where it is refused nothing has changed.
+// Checks the answer of `resume`. A refused call changes nothing.
 fn resumes(rt: &impl Abort, ground: &mut Ground, value: u8, want: Result<u64, LinkFault>) {
     let before = (seen(ground), counts(ground), ground.known_on_board(value));
     equal(rt, &ground.resume(value), &want);
@@ -121,13 +121,14 @@ fn obeys(
     equal(rt, &ground.directive(directive), &want);
 }
 
-/// Takes this packet of telemetry, or there is none.
+/// Checks that this packet of telemetry is taken, or that there is none.
 pub fn takes(rt: &impl Abort, ground: &mut Ground, want: Option<&[u8]>) {
     let taken = ground.take_telemetry();
     assert!(rt; taken.as_ref().map(|taken| taken.as_slice()) == want);
 }
 
-/// A new ground answers the calls of these rows so, and stands so after each.
+/// Checks that a new ground answers the calls of these rows as they state, and is in the stated state after
+/// each.
 pub fn asks(
     rt: &(impl Abort + Eprint),
     alloc: Global,
@@ -137,7 +138,7 @@ pub fn asks(
     plays::<Ground, _>(rt, alloc, config, rows);
 }
 
-// All that the reading calls show.
+// Returns what `Standing` lists.
 fn seen(ground: &Ground) -> Standing {
     (
         ground.state(),
@@ -147,7 +148,7 @@ fn seen(ground: &Ground) -> Standing {
     )
 }
 
-// What `prepare` refuses, on MAP 4.
+// Returns the fault of `prepare` on MAP 4, if it refuses.
 fn fault_of(rt: &(impl Abort + Eprint), ground: &Ground, octets: &[u8]) -> Option<LinkFault> {
     match ground.prepare(4, octets) {
         Err(LinkFault::Memory) => {
@@ -158,7 +159,7 @@ fn fault_of(rt: &(impl Abort + Eprint), ground: &Ground, octets: &[u8]) -> Optio
     }
 }
 
-// Submits what was prepared: the answers are the same.
+// Submits octets, and checks that `prepare` answers the same.
 fn submit(rt: &(impl Abort + Eprint), ground: &mut Ground, octets: &[u8]) -> Result<(), LinkFault> {
     let fault = fault_of(rt, ground, octets);
     let answer = put(rt, ground, false, octets);
@@ -166,7 +167,7 @@ fn submit(rt: &(impl Abort + Eprint), ground: &mut Ground, octets: &[u8]) -> Res
     answer
 }
 
-// Submits on MAP 4, or passes the sequence control.
+// Submits on MAP 4, or sends by bypass.
 fn put(
     rt: &(impl Abort + Eprint),
     ground: &mut Ground,
@@ -180,7 +181,7 @@ fn put(
     answer_of(rt, ground, seen, Some(LinkFault::Memory), put)
 }
 
-// Receives. Octets that are no frame, and frames of only idle data, take no memory.
+// Receives telemetry. Neither octets that do not form a valid frame nor frames of only idle data take memory.
 fn telemetry(
     rt: &(impl Abort + Eprint),
     ground: &mut Ground,
@@ -190,7 +191,7 @@ fn telemetry(
     answer_of(rt, ground, seen, refusal_of(octets), hear)
 }
 
-// The fault for want of memory, where octets are a frame with packets.
+// Returns Memory, the fault of a call out of memory, if the octets are a frame with packets.
 fn refusal_of(octets: &[u8]) -> Option<LinkFault> {
     match decode(octets, octets.len()) {
         Ok(frame) if frame.pointer != Pointer::OnlyIdle => Some(LinkFault::Memory),
@@ -198,7 +199,7 @@ fn refusal_of(octets: &[u8]) -> Option<LinkFault> {
     }
 }
 
-// Pulls the frame that is peeked at before. Octets past it stay.
+// Peeks at the frame, then pulls it. Octets after it do not change.
 fn pulls(rt: &impl Abort, ground: &mut Ground, want: Option<&[u8]>) {
     let mut peeked = [0; 1024];
     let total = peek(ground, &mut peeked);
@@ -209,7 +210,7 @@ fn pulls(rt: &impl Abort, ground: &mut Ground, want: Option<&[u8]>) {
     assert!(rt; size.and_then(|size| out.get(..size)) == want);
 }
 
-// Writes the frame that goes next: how many octets it has.
+// Writes the next frame, and returns its length.
 fn peek(ground: &Ground, out: &mut [u8; 1024]) -> Option<usize> {
     match ground.peek() {
         Some(frame) => encode(&frame, Check::On, out).ok(),
@@ -217,7 +218,7 @@ fn peek(ground: &Ground, out: &mut [u8; 1024]) -> Option<usize> {
     }
 }
 
-/// A frame of this channel whose report goes to the sender.
+/// Returns the answer to a frame of this channel whose CLCW the sender uses.
 pub fn heard(gap: Gap, packets: usize) -> Heard {
     Heard::Frame {
         gap,
@@ -283,7 +284,7 @@ fn both_ways(rt: HostRuntime) {
     asks(&rt, rt.alloc(), &config, &rows);
 }
 
-// Beside the sender's state a control word by itself changes nothing, and the extractor begins anew.
+// A CLCW by itself changes only the sender's state. After `forget_telemetry`, the extractor begins again.
 #[test]
 fn a_report_by_itself(rt: HostRuntime) {
     use FopMode::{S1, S6};
@@ -312,7 +313,7 @@ fn a_report_by_itself(rt: HostRuntime) {
     asks(&rt, rt.alloc(), &config, &rows);
 }
 
-// Three packets are two segments, of which the first is sent, and asked for again.
+// Three packets have two segments. The first is sent, and its retransmission is requested.
 #[test]
 fn what_waits(rt: HostRuntime) {
     use FopMode::{S1, S2, S6};
@@ -356,7 +357,8 @@ fn parts_that_are_sent(rt: HostRuntime) {
     asks(&rt, rt.alloc(), &with_parts(3, 0), &rows);
 }
 
-// No packet has more than 7 octets here; and segments have at most 14, so two packets and one.
+// First, packets have at most 7 octets. Then segments have at most 14, so one has two packets and the next
+// has one.
 #[test]
 fn several_packets_in_several_segments(rt: HostRuntime) {
     use FopMode::{S1, S6};

@@ -1,5 +1,5 @@
-// A program that resumes after each alert, over three sessions: three packets of two segments each, of which
-// one and a half are accepted in a session.
+// A program that resumes after each alert, over three sessions. Each of its three packets has two segments,
+// and a session accepts at most one and a half packets.
 
 use crate::tests::common::{equal, with_parts};
 use crate::tests::frames::{P0, P1, P2};
@@ -8,8 +8,8 @@ use std::alloc::Global;
 use std::process::Abort;
 use tc_link::{Config, Ground, Spacecraft};
 
-// What is submitted in a session, how many of its frames arrive, what the reports expect then, and which packet
-// is delivered. It is one, so `resume` says that one submission is on board.
+// The packets submitted in a session, how many of its frames arrive, the report value then, and the packet
+// that is delivered. This is one packet, so `resume` returns that one submission is on board.
 struct Session<'a> {
     packets: &'a [&'a [u8]],
     arrive: usize,
@@ -38,7 +38,7 @@ static SESSIONS: [Session<'static>; 3] = [
     },
 ];
 
-// Two new nodes go through the sessions. A report comes before each alert, or none does.
+// Runs the sessions between two new nodes, with a CLCW before each alert or with none.
 fn goes_on(rt: &impl Abort, alloc: Global, config: &Config, is_reported: bool) {
     let valid = config.valid().expect(rt, "a configuration");
     let mut spacecraft = Spacecraft::of(alloc, &valid).expect(rt, "a spacecraft");
@@ -59,7 +59,7 @@ fn goes_on(rt: &impl Abort, alloc: Global, config: &Config, is_reported: bool) {
     }
 }
 
-// Submits the packets, and sends all their frames, of which the first ones arrive.
+// Submits the packets, and sends all their frames. Only the first of these arrive.
 fn sends(rt: &impl Abort, ground: &mut Ground, spacecraft: &mut Spacecraft, session: &Session<'_>) {
     for packet in session.packets {
         equal(rt, &ground.submit(4, packet), &Ok(()));
@@ -82,7 +82,7 @@ fn arrives(rt: &impl Abort, ground: &mut Ground, spacecraft: &mut Spacecraft) {
     assert!(rt; received.is_ok());
 }
 
-// Sends a report, which arrives.
+// Sends a CLCW that arrives.
 fn reports(rt: &impl Abort, ground: &mut Ground, spacecraft: &mut Spacecraft) {
     let mut out = [0; 2048];
     let size = spacecraft.report(&mut out);
@@ -90,7 +90,7 @@ fn reports(rt: &impl Abort, ground: &mut Ground, spacecraft: &mut Spacecraft) {
     assert!(rt; heard.is_ok());
 }
 
-// The session ends by an alert, and the next begins from what the reports expect.
+// Ends the session by an alert, and resumes at the report value.
 fn ends(rt: &impl Abort, ground: &mut Ground, spacecraft: &Spacecraft, value: u8) {
     let terminated = ground.directive(Directive::Terminate);
     equal(rt, &terminated, &Ok(Some(Alert::Terminated)));
@@ -100,14 +100,14 @@ fn ends(rt: &impl Abort, ground: &mut Ground, spacecraft: &Spacecraft, value: u8
     equal(rt, &(ground.vs(), ground.nn()), &(value, value));
 }
 
-// The command Unlock arrives, and a report confirms it.
+// Lets the control command Unlock arrive, and a CLCW confirm it.
 fn begins(rt: &impl Abort, ground: &mut Ground, spacecraft: &mut Spacecraft) {
     arrives(rt, ground, spacecraft);
     reports(rt, ground, spacecraft);
     equal(rt, &ground.state(), &FopMode::S1);
 }
 
-// Takes this packet, and no other is there.
+// Checks that this packet is taken, and that no other is ready.
 fn delivers(rt: &impl Abort, spacecraft: &mut Spacecraft, packet: &[u8]) {
     let taken = spacecraft.take().expect(rt, "a packet");
     assert!(rt; taken.0 == 4 && taken.1.as_slice() == packet);

@@ -1,4 +1,4 @@
-// The node on board.
+// Calls of the spacecraft.
 
 use super::{Node, plays};
 use crate::tests::common::{answer_of, equal, says_refused, with_parts, with_value};
@@ -13,8 +13,8 @@ use tc_frame::{Check, Command, TcFault};
 use tc_link::{Config, LinkFault, Received, Spacecraft};
 use tm_link::{Pointer, TmFault};
 
-// A call of a spacecraft, and what it answers: of a report the control word, the count of the channel, where a
-// packet starts, and the first 7 octets of the data.
+// A call of a spacecraft, and its answer. For a telemetry frame, this is the CLCW, the virtual channel count,
+// the pointer to the first packet, and the first 7 octets of the data.
 #[derive(Clone, Copy)]
 enum Row<'a> {
     Receive(&'a [u8], Received),
@@ -22,7 +22,7 @@ enum Row<'a> {
     TakeBypass(Option<&'a [u8]>),
     Telemetry(&'a [u8], Result<(), TmFault>),
     Report([u8; 4], u8, Pointer, &'a [u8]),
-    // How many packets wait to be taken, of sequence-controlled frames and past the sequence control.
+    // The numbers of packets that wait to be taken, from Type-AD frames and from Type-BD frames.
     Waits(usize, usize),
 }
 
@@ -51,7 +51,7 @@ impl<'a> Node<Row<'a>> for Spacecraft {
     }
 }
 
-// A spacecraft that was restarted with V(R) 1, FARM-B 3 and the last counts before 0.
+// A spacecraft that was restarted with V(R) = 1, FARM-B = 3 and both frame counts at 255, the last before 0.
 #[derive(Drop)]
 struct Restarted {
     spacecraft: Spacecraft,
@@ -82,7 +82,7 @@ fn takes(rt: &impl Abort, taken: &Option<(u8, Vec<u8>)>, want: Option<&[u8]>) {
     assert!(rt; is_packet(taken, want));
 }
 
-// Whether a packet that was taken is this one, on MAP 4.
+// Returns whether the packet taken is this one, on MAP 4.
 fn is_packet(taken: &Option<(u8, Vec<u8>)>, want: Option<&[u8]>) -> bool {
     match (taken, want) {
         (Some((map, octets)), Some(packet)) => *map == 4 && octets.as_slice() == packet,
@@ -91,7 +91,7 @@ fn is_packet(taken: &Option<(u8, Vec<u8>)>, want: Option<&[u8]>) -> bool {
     }
 }
 
-// Receives. Octets that are no frame take no memory.
+// Receives octets. Octets that do not form a valid frame take no memory.
 fn receive(
     rt: &(impl Abort + Eprint),
     spacecraft: &mut Spacecraft,
@@ -106,7 +106,8 @@ fn receive(
     answer
 }
 
-// How many packets octets will make ready when they arrive. Octets that are no frame take no memory.
+// Returns how many packets these octets will make ready. Octets that do not form a valid frame take no
+// memory.
 fn ready_ahead(rt: &(impl Abort + Eprint), spacecraft: &Spacecraft, octets: &[u8]) -> usize {
     let ahead = match spacecraft.prepare(octets) {
         Err(fault) if refusal_of(octets) == Some(fault) => {
@@ -121,7 +122,7 @@ fn ready_ahead(rt: &(impl Abort + Eprint), spacecraft: &Spacecraft, octets: &[u8
     }
 }
 
-// How many packets an arrival of these octets will make ready.
+// Returns how many packets this arrival will make ready, and checks its data.
 fn ready_of(rt: &impl Abort, arrival: &Arrival, octets: &[u8]) -> usize {
     match arrival.accepted() {
         Some((segment, packets)) => {
@@ -133,7 +134,7 @@ fn ready_of(rt: &impl Abort, arrival: &Arrival, octets: &[u8]) -> usize {
     }
 }
 
-// The fault for want of memory, where octets are a frame.
+// Returns Memory, the fault of a call out of memory, if the octets are a frame.
 fn refusal_of(octets: &[u8]) -> Option<LinkFault> {
     match tc_frame::decode(octets, Check::On) {
         Ok(_) => Some(LinkFault::Memory),
@@ -145,7 +146,7 @@ fn word_of(spacecraft: &Spacecraft) -> Clcw {
     spacecraft.control_word()
 }
 
-// Queues a packet.
+// Queues a packet of telemetry.
 fn telemetry(
     rt: &(impl Abort + Eprint),
     spacecraft: &mut Spacecraft,
@@ -155,7 +156,7 @@ fn telemetry(
     answer_of(rt, spacecraft, word_of, Some(TmFault::Memory), queue)
 }
 
-// Sends a frame. Octets past it stay.
+// Sends a telemetry frame, and checks it. Octets after it do not change.
 fn reports(
     rt: &impl Abort,
     spacecraft: &mut Spacecraft,
@@ -172,7 +173,7 @@ fn reports(
     is_read(rt, octets, (word, number, pointer), data);
 }
 
-// A telemetry frame has this control word, count and pointer, and its data begins so.
+// Checks that a telemetry frame has this CLCW, count and pointer, and that its data begins with these octets.
 fn is_read(rt: &impl Abort, octets: &[u8], fields: ([u8; 4], u8, Pointer), data: &[u8]) {
     match tm_link::decode(octets, octets.len()) {
         Ok(frame) => {
@@ -183,7 +184,7 @@ fn is_read(rt: &impl Abort, octets: &[u8], fields: ([u8; 4], u8, Pointer), data:
     }
 }
 
-// A frame of only idle data.
+// Returns the row of a frame of only idle data.
 fn idle(word: [u8; 4], number: u8) -> Row<'static> {
     Row::Report(word, number, Pointer::OnlyIdle, &IDLE_DATA)
 }
@@ -247,7 +248,7 @@ fn frames_in_sequence(rt: HostRuntime) {
     plays::<Spacecraft, _>(&rt, rt.alloc(), &Config::default(), &rows);
 }
 
-// There is room for one packet: with blocking a frame may have two.
+// There is room for one packet, but with blocking a frame can have two.
 #[test]
 fn a_full_buffer(rt: HostRuntime) {
     let config = Config {

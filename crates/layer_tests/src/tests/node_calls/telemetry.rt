@@ -1,5 +1,5 @@
-// Telemetry that comes down: two packets of two frames each, of which none, 255 and 256 in a row are lost; and a
-// spacecraft that is restarted between two frames.
+// Telemetry on the downlink. Two packets of two frames each are sent while no frame, or 255 or 256 frames in
+// a row, are lost; and a spacecraft is restarted between two frames.
 
 use super::ground::{heard, takes};
 use crate::tests::common::{equal, with_value};
@@ -18,13 +18,13 @@ const B: [u8; 16] = [
     0x00, 0x05, 0xc0, 0x01, 0x00, 0x09, 0xb0, 0xb1, 0xb2, 0xb3, 0xb4, 0xb5, 0xb6, 0xb7, 0xb8, 0xb9,
 ];
 
-// The first half of A and the second of B: it was never queued.
+// The first half of A and the second half of B, a packet that was never queued.
 const A_THEN_B: [u8; 16] = [
     0x00, 0x05, 0xc0, 0x00, 0x00, 0x09, 0xa0, 0xa1, 0xb2, 0xb3, 0xb4, 0xb5, 0xb6, 0xb7, 0xb8, 0xb9,
 ];
 
-// What happens: a packet is queued, frames are lost, one is heard with its gap and this many packets, and a
-// packet is taken or none is there.
+// An event: a packet is queued, frames are lost, a frame is heard with its gap and this many packets, or a
+// packet is taken or is not there.
 #[derive(Clone, Copy)]
 enum Event<'a> {
     Queue(&'a [u8]),
@@ -59,11 +59,11 @@ fn hears(
     let mut out = [0; 2048];
     let size = spacecraft.report(&mut out);
     let answer = ground.telemetry(out.get(..size).unwrap_or_default());
-    // The sender, in S6, does not use the report for anything.
+    // The sender, in S6, does not use the CLCW for anything.
     equal(rt, &answer, &Ok(heard(gap, packets)));
 }
 
-// These events happen, one after another, between two new nodes.
+// Lets these events happen, one after another, between two new nodes.
 fn happen(rt: &impl Abort, alloc: Global, events: &[&[Event<'_>]]) {
     let config = with_value(Parameter::FrameLength, 20);
     let valid = config.valid().expect(rt, "a configuration");
@@ -103,8 +103,8 @@ fn packets_over_losses(rt: HostRuntime) {
         Event::Take(Some(&B)),
         Event::Take(None),
     ];
-    // One frame more is lost, the first half of B: by the counts none is missing, and what is handed out was
-    // never queued.
+    // One more frame is lost, the first half of B. The counts show no missing frame, so a packet is delivered
+    // that was never queued.
     let half_comes = [
         Event::Lose(1),
         Event::Hear(Gap::Lost(0), 1),
@@ -116,8 +116,8 @@ fn packets_over_losses(rt: HostRuntime) {
     }
 }
 
-// The second half of A is gone with the spacecraft. The counts go on, so no frame is missing, and the half that came
-// is joined to nothing.
+// The second half of A is lost with the old spacecraft. The counts continue, so no frame is missing, and the
+// half that arrived is not joined to anything.
 #[test]
 fn a_restart_on_purpose(rt: HostRuntime) {
     let config = with_value(Parameter::FrameLength, 20);

@@ -24,7 +24,7 @@ vcid_named : (check : Check) (f : FrameView) (octets : List ℕ) → IsTcFrame c
 vcid_named check f [] h = omega (arith, h.second)
 vcid_named check f (b ∷ bs) h = vcid_above _ f.vcid (length (b ∷ bs)) h.second (omega arith) h.total
 
--- the octet of the virtual channel in a control word, below its version and status
+-- the octet of the virtual channel in a CLCW, below its version and status
 word_below : (status vcid : ℕ) → vcid < 64 → number_of ((4 * status + 1) ∷ 4 * vcid ∷ []) / 4 % 64 ≡ vcid
 word_below status vcid lt = omega arith
 

@@ -10,7 +10,7 @@ use Rattle.listings.proofs.stream.list_records.Given.{Over}
 use Rattle.listings.proofs.stream.list_records.Goals as goal
 use Rattle.listings.proofs.stream.list_records.Goals.{After-next}
 
--- what was handed out is the first record, and the octets after it are left
+-- what was returned is the first record, and the octets after it are left
 pub loop-answer-preserved : goal.loop-answer-preserved
 loop-answer-preserved g c =
     let told = c.next.follows.holds-at-none in
@@ -41,7 +41,7 @@ loop-answer-preserved g c =
       room = omega (arith, ap (λ x. x.count) c.and.ensures, c.step.ensures, ap length left, less);
     }
 
--- no record stands first, so the listing ends as it stands
+-- no record comes first, so the listing ends as it is
 ends : (g : Over) (c : After-next g) → IsNoRecord g.S.Cutter.layout.head g.S.Cutter.layout.extent
     (first_by g.S.Cutter.layout (g.S.Cutter.held c.loop-answer.cutter))
     → rest_after (first_by g.S.Cutter.layout (g.S.Cutter.held c.loop-answer.cutter))

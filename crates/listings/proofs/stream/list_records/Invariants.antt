@@ -3,7 +3,7 @@ use Rattle.listings.specs.Text.{written}
 use Rattle.listings.specs.Listing.{listed, standing}
 use Rattle.listings.proofs.stream.list_records.Given as goal
 
--- the listing goes to where it goes from the start
+-- the listing leads to where it leads from the start
 abbrev pub invariant-loop-answer : goal.invariant-loop-answer
 invariant-loop-answer g l =
     let all = listed g.C.Listing.lines g.S.Cutter.layout in

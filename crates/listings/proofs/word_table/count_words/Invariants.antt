@@ -3,7 +3,7 @@ use Rattle.listings.specs.Phrases.{with_each, words_in}
 use Rattle.listings.specs.Phrases.{row_of}
 use Rattle.listings.proofs.word_table.count_words.Given as goal
 
--- the table with the words that are left is the first one with all of them
+-- the table with the words that are left is the first table with all of them
 abbrev pub invariant-words : goal.invariant-words
 invariant-words l = record {
   within : length l.rest ≤ length l.fn.text;

@@ -83,7 +83,7 @@ returns-then-is_empty-clause-err c =
           c.packets.invariant.rest (sym w.is_empty-else-is_empty.ensures ∙ w.if-not-is_empty.true)
     ])
 
--- no packet is left, nor anything else
+-- no packet and no other octets are left
 judged_whole : (c : Else-not-is_empty)
     → commands_fault c.args.limits.now c.args.octets.now ≡ cond c.packets.too_long (Some TooLong) None
 judged_whole c =

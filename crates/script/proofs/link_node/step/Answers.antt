@@ -8,7 +8,7 @@ use Rattle.simulated_link.specs.declared.fault.SimFault.TheVariants.{Memory}
 use Rattle.simulated_link.specs.declared.reply.Reply.{Reply}
 use Rattle.script.proofs.link_node.step.Goals as goal
 
--- a step that had memory leaves the world that its outcome has, refused or not
+-- a step that did not run out of memory leaves the world of its outcome, refused or not
 left_so : (w new : World) (o : WorldOutcome) → IfErr o.answer (λ e. o.after ≡ w) → (r : Result Reply SimFault)
     → r ≢ Err Memory → OnOk r (new ≡ o.after) → OnErr r (new ≡ w) → (a : Result ReplyView SimFault) → o.answer ≡ a
     → IfOk a (λ x. IsOkUnless r Memory) → new ≡ o.after

@@ -3,7 +3,7 @@ use Rattle.simulated_link.specs.World.{submitted, delivered}
 use Rattle.script.specs.Player.{count_below_map}
 use Rattle.script.proofs.show.count_packets.Given as goal
 
--- those on the MAPs so far are counted
+-- the packets on the MAPs so far are counted
 abbrev pub invariant-maps : goal.invariant-maps
 invariant-maps l = record {
   submitted : l.of_submitted ≡ count_below_map (submitted l.world) l.map;

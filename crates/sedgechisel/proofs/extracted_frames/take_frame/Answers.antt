@@ -43,7 +43,7 @@ returns-then-fault-ne0 c =
       memory = c.sedge_tm_extractor_frame-fault.auto.memory;
     }
 
--- what comes of a frame that is taken
+-- what becomes of a frame that is taken
 taken : (c : After-sedge_tm_extractor_frame-fault) → 0 ≡ c.sedge_tm_extractor_frame-fault.result
     → IsTaken c.args.extractor.now c.args.frame.now c.args.payload.now c.args.memory.now
     (extracted_described c.sedge_tm_extractor_frame-fault.new.extractor c.sedge_tm_extractor_frame-fault.new.extracted

@@ -3,7 +3,7 @@ use Rattle.streams.specs.Devices.{failed_in}
 use Rattle.streams.specs.declared.output.WriteFailed.{WriteFailed}
 use Rattle.stream_commands.proofs.status.ending.Goals as goal
 
--- where no call of the sink failed, what follows from each answer that is Ok
+-- if no call of the sink failed, what follows from each answer that is Ok
 none_failed : {P : Type 0} (r : Result (Unit {0}) WriteFailed) (before now : ℕ)
     → OnOk r P → now ≡ before + failed_in r → now ≡ before → P
 none_failed (Ok u) before now ok failures same = ok

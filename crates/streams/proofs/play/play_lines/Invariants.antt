@@ -3,7 +3,7 @@ use Rattle.streams.specs.Lines.{parts_of}
 use Rattle.streams.specs.Player.{after_lines, answers}
 use Rattle.streams.proofs.play.play_lines.Given as goal
 
--- what is written, what is gathered and the answers to what is left are the answers to all
+-- what is written, what is gathered and the answers to what is left are together the answers to all
 abbrev pub invariant-lines : goal.invariant-lines
 invariant-lines g l =
     let taken = g.W.Sink.taken_octets in

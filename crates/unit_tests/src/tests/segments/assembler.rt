@@ -1,4 +1,4 @@
-// Segments joined: the rows of the table.
+// Segments joined to packets: the rows of the table.
 
 use super::*;
 use crate::tests::equal::equal;
@@ -9,7 +9,7 @@ use tc_frame::SegmentFlags::{Alone, Continuing, First, Last};
 
 const P1: [u8; 7] = [0x10, 0x05, 0xc0, 0x01, 0x00, 0x00, 0xab];
 
-// Takes. Where memory is refused nothing has changed, and the call made again answers as ever.
+// Takes a segment. If memory is refused, nothing changes, and the repeated call succeeds.
 fn takes(
     rt: &(impl Abort + Eprint),
     assembler: &mut Assembler,
@@ -26,8 +26,8 @@ fn takes(
     }
 }
 
-// The flags and the MAP of a segment, between which places of some octets its data lie, what is dropped, and the
-// packets that are handed out.
+// The flags and the MAP of a segment, the range of its data in the test's octets, what it drops, and the
+// packets that it completes.
 type Row = (
     SegmentFlags,
     u8,
@@ -36,7 +36,7 @@ type Row = (
     &'static [&'static [u8]],
 );
 
-// Takes segments with data of these octets.
+// Takes segments with data from these octets.
 fn takes_each(rt: &(impl Abort + Eprint), assembler: &mut Assembler, octets: &[u8], rows: &[Row]) {
     for (flags, map, (from, end), dropped, packets) in rows {
         let payload = octets.get(*from..*end).unwrap_or_default();
@@ -45,7 +45,7 @@ fn takes_each(rt: &(impl Abort + Eprint), assembler: &mut Assembler, octets: &[u
     }
 }
 
-// A new assembler takes segments with data of P0, P1 and P2.
+// Lets a new assembler take segments with data from P0, P1 and P2.
 fn joins(rt: &(impl Abort + Eprint), alloc: Global, limits: Limits, rows: &[Row]) {
     takes_each(rt, &mut Assembler::new(alloc, limits), &THREE, rows);
 }
@@ -66,7 +66,7 @@ fn parts_on_two_maps(rt: HostRuntime) {
     joins(&rt, rt.alloc(), limits(7, false), &rows);
 }
 
-// A segment that is one packet is handed out as it came, where nothing waits on its MAP.
+// A segment that is one packet is returned as it arrived if no part is open on its MAP.
 #[test]
 fn segments_that_pass(rt: HostRuntime) {
     let mut assembler = Assembler::new(rt.alloc(), limits(7, false));
@@ -90,7 +90,7 @@ fn segments_that_pass(rt: HostRuntime) {
     );
 }
 
-// Whether the segment passes as its data.
+// Checks whether the assembler returns the segment's data as a packet.
 fn is_lone(rt: &impl Abort, assembler: &Assembler, segment: &Segment<'_>, passes: bool) {
     let packet = match passes {
         true => Some(segment.payload),
@@ -99,7 +99,7 @@ fn is_lone(rt: &impl Abort, assembler: &Assembler, segment: &Segment<'_>, passes
     assert!(rt; assembler.lone_packet(segment) == packet);
 }
 
-// Several growths of the part.
+// The open part grows several times.
 #[test]
 fn a_part_octet_by_octet(rt: HostRuntime) {
     let rows: [Row; 7] = [
@@ -139,7 +139,7 @@ fn several_packets_in_a_segment(rt: HostRuntime) {
     joins(&rt, rt.alloc(), limits(20, true), &rows);
 }
 
-// The same in lists in which one packet takes no memory of its own.
+// Joins packets in lists in which a single packet takes no memory of its own.
 #[test]
 fn packets_inline(rt: HostRuntime) {
     let mut assembler = Assembler::new(rt.alloc(), limits(20, true));
@@ -148,7 +148,7 @@ fn packets_inline(rt: HostRuntime) {
     takes_inline(&rt, &mut assembler, &[], &[]);
 }
 
-// Takes an alone segment with this data, which drops nothing but data that are no packet.
+// Takes a segment with the flags Alone and this data. It drops the data only if they are not packets.
 fn takes_inline(
     rt: &(impl Abort + Eprint),
     assembler: &mut Assembler,
@@ -169,7 +169,7 @@ fn takes_inline(
     }
 }
 
-// MAP 4 alone is open, and packets have at most 7 octets.
+// Limits with which only MAP 4 is open, and packets have at most 7 octets.
 fn short(blocking: bool) -> Limits {
     Limits {
         part: 20,
@@ -179,8 +179,8 @@ fn short(blocking: bool) -> Limits {
     }
 }
 
-// MAPs that are closed, a part that is interrupted, and then parts of 8 octets, in each place. With no part open,
-// nothing is too long for one.
+// Covers closed MAPs, an interrupted part, and then parts of 8 octets in each position. If no part is open,
+// no segment can be too long for it.
 #[test]
 fn closed_maps_interruptions_and_long_parts(rt: HostRuntime) {
     let rows: [Row; 14] = [
@@ -202,8 +202,8 @@ fn closed_maps_interruptions_and_long_parts(rt: HostRuntime) {
     joins(&rt, rt.alloc(), short(false), &rows);
 }
 
-// Without blocking the length of all is asked for first; with it that of each packet, once they are
-// whole.
+// Without blocking, the length of all data is checked first; with blocking, the length of each packet, once
+// all are whole.
 #[test]
 fn alone_too_long(rt: HostRuntime) {
     let both: [(bool, Dropped, Row); 2] = [

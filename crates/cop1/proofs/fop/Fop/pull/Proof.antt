@@ -80,7 +80,7 @@ module _ (X : RattleType) (LX : Laws X) (d : Dict) where
   abbrev fn' : Fn
   fn' = inst_fn args code.function
 
-  -- a unit, a sender of units, and what it hands out
+  -- a unit, a sender of units, and what it returns
   abbrev U : RattleType
   U = param 0 X
 
@@ -142,7 +142,7 @@ module _ (X : RattleType) (LX : Laws X) (d : Dict) {M : Type 1} {𝓤 : Ura M} (
   abbrev AtNext : Contract 𝓤
   AtNext = triple_of 𝓛 (N.signature X) (N.spec X d 𝓛 at_mem run)
 
-  -- what `next` tells of the sender and of its answer
+  -- what `next` states of the sender and of its answer
   abbrev Told : State → Next X.Denot → State → Type 0
   Told s x s' =
       (s' ≡ (fop_step s Pull).after) × (seen_at (units_of s'.sent) x ≡ (fop_step s Pull).answer)
@@ -187,7 +187,7 @@ module _ (X : RattleType) (LX : Laws X) (d : Dict) {M : Type 1} {𝓤 : Ura M} (
         split ! $ move ! (1 ∷ [])
         $ pick ! (λ ws. split ! $ fsplit ! $ fsplit ! $ move ! (1 ∷ []) $ drop ! $ move ! (2 ∷ []) $
         split3 ! $ learn ! (λ after. drop ! $ learn ! (λ answer. drop ! $ learn ! (λ placed. drop ! $
-        -- [what the sender ends as; nothing; the tokens and the answer]
+        -- [the final state of the sender; nothing; the tokens and the answer]
         move ! (2 ∷ []) $ split ! $ split3 ! $ use2 𝓛 (‵ (flft κ t)) (𝓛.lfts.lft_join κ t) $
         at_once ! $ shows_it ! (Gave v) (x, ws.0) $ check ! (after, answer, placed) $ keep ! (0 ∷ 3 ∷ 2 ∷ [])
         $ done !)))))
@@ -233,7 +233,7 @@ module _ (X : RattleType) (LX : Laws X) (d : Dict) {M : Type 1} {𝓤 : Ura M} (
         split ! $ move ! (1 ∷ []) $ pick ! (λ ws. split ! $ drop ! $ learn ! (λ is. drop ! $ split ! $ split3 ! $
         at_once ! $ shows_it ! (Shown w) y $ check ! is $ keep ! (0 ∷ 1 ∷ 3 ∷ []) $ done !)))
 
-  -- what the sender ends as
+  -- the final state of the sender
   ends : (γ : GName) (rb ro : ℕ) (s after s' : State) → s' ≡ after
       → ent 𝓤 (A.res γ (Row.coded.code s')) (sem 𝓛
       (EndsAs (U X LX d) (record { ref_ptr = (rb, ro); ghost_name = γ; now = s }) after))
@@ -301,7 +301,7 @@ module _ (X : RattleType) (LX : Laws X) (d : Dict) {M : Type 1} {𝓤 : Ura M} (
         (fres γ (Row.coded.code s')) ⊛ ‵ (flft κ q))) (ref_Share 𝓛 Row rb ro γ s' laws.shr_laws κ q shares)
         $ await ! tt $ split3 ! $
         feq_i ! (List Val) (vptr rb ro ∷ []) (vptr rb ro ∷ []) refl $ fjoin ! $
-        -- [the shared reference; what the sender ends as; its token; the units' token; the answer]
+        -- [the shared reference; the final state of the sender; its token; the units' token; the answer]
         sets ! (of_opd ! (get ! refl)) refl good $
         move ! (2 ∷ 3 ∷ 0 ∷ 4 ∷ []) $ group ! 4
         $ use1 𝓛 (raw (AtShow.pre (at_show κ κT q qT bd rb ro s' r.0 v)))
@@ -316,7 +316,7 @@ module _ (X : RattleType) (LX : Laws X) (d : Dict) {M : Type 1} {𝓤 : Ura M} (
         let fits = (((pulled-laws.the_row_laws (named_lft 2 0 tt (κ, (κT, tt))) (U X LX d) (U X LX d)
         (param_laws 0 X LX) (param_laws 0 X LX)).lawful 𝓛).typed y (w ∷ []) so).0 in
         lands_as ! refl refl fits $ returns ! (look_at ! 0 refl) $ free_all ! refl $
-        -- [the answer; the token; the units' token; what the sender ends as]
+        -- [the answer; the token; the units' token; the final state of the sender]
         move ! (3 ∷ [])
         $ use1 𝓛 (‵ (EndsAs (U X LX d) self (fop_step s Pull).after))
         (ends γ rb ro s (fop_step s Pull).after s' told.0) $ keep ! (1 ∷ 2 ∷ 3 ∷ 0 ∷ []) $

@@ -12,7 +12,7 @@ use Rattle.listings.proofs.stream.ListerTaker.take.Given.{Over}
 use Rattle.listings.proofs.stream.ListerTaker.take.Goals as goal
 use Rattle.listings.proofs.stream.ListerTaker.take.Goals.{In-Ok-list_records}
 
--- where the listing stands after its records
+-- the state of the listing after its records
 lists : (g : Over) (c : In-Ok-list_records g) → standing (written c.list_records.new.text) c.list_records.new.listing
     c.list_records.new.progress (g.S.Cutter.held c.list_records.new.cutter)
     ≡ listed g.C.Listing.lines g.S.Cutter.layout (standing [] c.args.listing.now c.args.self.now.progress

@@ -4,7 +4,7 @@ use Rattle.listings.specs.Phrases.{tallied_in}
 use Rattle.listings.specs.Totals.{with_octet}
 use Rattle.listings.proofs.totals.Tally.take_each.Given as goal
 
--- what the octets that are left make of the tally is what all of them make of the first one
+-- the tally with the octets that are left is the first tally with all of them
 abbrev pub invariant-loop-octet : goal.invariant-loop-octet
 invariant-loop-octet l = record {
   tally : fold with_octet (tallied_in l.self) (drop l.octet-index l.text)

@@ -4,7 +4,7 @@ use Rattle.listings.specs.Phrases.{tallied_in, AreWhole}
 use Rattle.listings.specs.Totals.{with_octet}
 use Rattle.listings.proofs.totals.Tally.take_words.Given as goal
 
--- what the octets that are left make of the tally is what all of them make of the first one
+-- the tally with the octets that are left is the first tally with all of them
 abbrev pub invariant-phrases : goal.invariant-phrases
 invariant-phrases l = record {
   none : l.self.word.items ≡ [];

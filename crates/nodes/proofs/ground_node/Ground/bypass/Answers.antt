@@ -20,7 +20,7 @@ new-requires c =
     (subst (λ (s : GroundState). IsConfig s.config) c.self.view_is c.self.invariant.config)
     c.in_ok-segment.ensures.passed)
 
--- one segment more is in the bypass queue, or there was no memory
+-- one more segment is in the bypass queue, or memory ran out
 
 with_past : (i : Inside) (past : List SegmentView) → IsSound i
     → IsSenderOf i.config (record i.fop { bypass = past })

@@ -46,7 +46,7 @@ module _ (s t : GroundState) (b : Submission) (prepared : IsSubmissionAt s b) (s
   some c =
       omega (arith, ap length held_is, some_segments (limits_of t.config) b.map b.octets.now c.part.0 accepted.commands)
 
-  -- the submissions have a segment each, and there are no more than may be outstanding
+  -- each submission has a segment, so with one more there are at most as many as segments may be outstanding
   room : (most : ℕ) → AreOwed t.fop t.pending t.fates.left → length t.fop.sent ≤ most → IsConfig t.config
       → 1 + length t.fates.left ≤ most + t.config.queue_slots
   room most owed sent c =
@@ -80,7 +80,7 @@ push_back_reserved-requires c =
     c.self.invariant.owed (omega (arith, c.sent.ensures.count, c.sent.ensures.most)) c.self.invariant.config in
     omega (arith, fits, c.self.invariant.places, c.self.inside.left.ok.0)
 
--- one segment more is pending, or several
+-- one more segment is pending, or several more are
 
 module _ (s : GroundState) (i : Inside) (b : Submission) (prepared : IsSubmissionAt s b) (same : state_of i ≡ s)
     (sound : IsSound i) where

@@ -14,7 +14,7 @@ use Rattle.nodes.proofs.GroundBounds.{KeepsBounds, directed_bounded, fewer_obeyi
 use Rattle.nodes.proofs.Owed.{still_owed_then}
 use Rattle.nodes.proofs.ground_node.Ground.directive.Goals as goal
 
--- What a `?` hands on of a fault.
+-- How `?` passes on a fault.
 
 module _ {A E : Type 0} where
   returned : (r : Result A E) (fault : E) → IsErrAnd r (λ e. e ≡ fault) → r ≡ Err fault
@@ -77,7 +77,7 @@ invariant_of-self-2 c =
       submissions = omega (arith, ap length left, fewer_obeying t.fates d, c.self.invariant.submissions);
     }
 
--- where the sender refuses
+-- the case in which the sender refuses
 module _ (c : goal.After-from_residual) where
   abbrev s : GroundState
   s = state_of c.self.inside

@@ -20,7 +20,7 @@ none_is {A = A} o P e = subst (λ (x : Option A). IfSome x P) (sym e) tt
 held_by : {A : Type 0} (P : A → Type 0) (o : Option A) (p : A) → o ≡ Some p → IfSome o P → P p
 held_by {A = A} P o p e h = subst (λ (x : Option A). IfSome x P) e h
 
--- the code goes by the limits that are configured
+-- the code uses the configured limits
 at_limits : (P : Limits → Type 0) (l : Limits) (t s : GroundState) → l ≡ limits_of t.config → t ≡ s → P l
     → P (limits_of s.config)
 at_limits P l t s is same p = subst P (is ∙ ap (λ (x : GroundState). limits_of x.config) same) p
@@ -33,7 +33,7 @@ fault_by : (l : Limits) (t s : GroundState) (octets : List ℕ) (o : Option Link
     → commands_fault l octets ≡ o → commands_fault (limits_of s.config) octets ≡ o
 fault_by l t s octets o is same h = at_limits (λ (x : Limits). commands_fault x octets ≡ o) l t s is same h
 
--- where packets could not be cut
+-- the case in which packets could not be cut
 uncut : (l : Limits) (t s : GroundState) (m : ℕ) (octets : List ℕ) (fault : LinkFault) → l ≡ limits_of t.config → t ≡ s
     → false ≡ is_closed s.fop.state → true ≡ is_open l m → commands_fault l octets ≡ None
     → fault ≡ (if is_over_slots s m octets then QueueFull else Memory)

@@ -15,7 +15,7 @@ use Rattle.nodes.proofs.GroundBounds.{KeepsBounds, reported_bounded}
 use Rattle.nodes.proofs.Owed.{moved_is, reported_holds, still_owed, fewer_left}
 use Rattle.nodes.proofs.ground_node.Ground.report.Goals as goal
 
--- a report that is used
+-- a CLCW that is used
 used : (s : GroundState) (word : Clcw) (r : Result Clcw ClcwFault) → r ≡ Ok word → word.vcid ≡ s.config.vcid
     → after_report s (clcw_step s.fop word) ≡ (report_outcome s r).after
 used s word r is own = rw (is, eq-eqb word.vcid s.config.vcid own) refl

@@ -1,4 +1,4 @@
--- A log begins with no segments. Assumes `Logic`.
+-- A new log has no segments. Assumes `Logic`.
 use Rattle.std.proofs.Common.{[], refl}
 use contract.Monad.{fact_i}
 use Rattle.octets.proofs.Walks.{makes, owned}

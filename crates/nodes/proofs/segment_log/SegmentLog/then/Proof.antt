@@ -1,4 +1,4 @@
--- What `then` logs is what was logged, with one segment more. Assumes `Logic`.
+-- `then` returns the log with one more segment. Assumes `Logic`.
 use Rattle.std.proofs.Common.{[], ◌∷◌, ◌++◌, refl}
 use contract.Monad.{fact_i}
 use denote.Signature.{plain, named_lft}

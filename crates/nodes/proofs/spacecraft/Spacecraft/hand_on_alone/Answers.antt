@@ -18,7 +18,7 @@ module _ (i : Inside) (now : SpacecraftState) (s : SegmentView) (same : state_of
   still_alone : hands_out (limits_of i.config) s ≡ true
   still_alone = subst (λ (t : SpacecraftState). hands_out (limits_of t.config) s ≡ true) (sym same) alone
 
-  -- the segment's packets are those that stand in its octets
+  -- the segment's packets are those in its octets
   they_are : IsSound i → packets_in s.payload ≡ (step_at i.assembler s).packets
   they_are sound =
       sym (handed_packets i.assembler.limits (part_on_map i.assembler s.header.map) s (rw sound.limits still_alone))

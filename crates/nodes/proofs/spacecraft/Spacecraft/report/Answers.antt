@@ -14,7 +14,7 @@ use Rattle.nodes.proofs.spacecraft.Spacecraft.report.Goals as goal
 encoded : (word : Clcw) → words.fits word ≡ true → words.encode_answer word ≡ Ok (words.spelling word)
 encoded word fits = rw fits refl
 
--- a frame more is of the same channel and length
+-- the next frame is of the same channel and length
 one_of : (c : Config) (b : Bool) (s t : BuilderState) → IsBuilderOf c s → IsBuilderOf c t
     → IsBuilderOf c (if b then s else t)
 one_of c true s t is other = is
@@ -37,7 +37,7 @@ module _ (c : goal.After-build) where
   abbrev s : SpacecraftState
   s = state_of c.self.inside
 
-  -- the octets of the report
+  -- the octets of the CLCW
   octets_are : c.in-Ok.ocf ≡ report_octets s
   octets_are =
       let is : Ok c.in-Ok.ocf ≡ Ok (words.spelling c.control_word.result) =

@@ -10,7 +10,7 @@ use Rattle.script.specs.LinkNode.{link_rules}
 use Rattle.script.proofs.PlayedLines.{plays}
 use Rattle.script.proofs.run.ScriptTakerUnit.end.Goals as goal
 
--- what a script that is played answers, as the code has its octets
+-- the answers of a script that is run, with its octets as the code has them
 played : (items script : List ℕ) → script ≡ items → Ends None script
     → answers (node_playing link_rules) fresh_player (parts_of script) ≡ script_text (items ++ [])
 played items script is good = plays script good ∙ ap script_text (is ∙ sym (append-nil items))

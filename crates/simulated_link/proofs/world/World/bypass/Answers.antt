@@ -19,7 +19,7 @@ module _ (c : goal.Joined-bypass) where
   abbrev event : Event
   event = events.Bypass c.args.map c.args.octets
 
-  -- the ground where it refuses nothing, and for this reason
+  -- the ground's outcome, unless it refuses for this reason
   abbrev unless : Option LinkFault → GroundOutcome (Result (Unit {0}) LinkFault)
   unless reason = unless_refused reason s (after_bypass s c.args.map c.args.octets.now)
 

@@ -12,7 +12,7 @@ use Rattle.simulated_link.proofs.Counted.{heard_less}
 use Rattle.simulated_link.proofs.world.World.down_deliver.Goals.{then-self, else-self, After-deref}
 use Rattle.simulated_link.proofs.world.World.down_deliver.Goals as goal
 
--- NN(R) has moved so far
+-- how far NN(R) has moved
 moved : (c : goal.After-self-2-1)
     → c.from.result ≡ ahead_by c.telemetry.new.self.fop.nn c.self.inside.ground_node.fop.nn
 moved c =
@@ -44,7 +44,7 @@ invariant_of-self-2 c =
     ≤ length c.self.inside.session.sent.items = omega (arith, c.self.invariant.counted, less, moved c) in
     assumption (counted, c.self.invariant)
 
--- the first frame on its way
+-- the octets are those of the first frame in transit
 came : (c : After-deref) → IsFirst c.deref.result.now c.self.inside.down.items
 came c =
     first_there c.self.inside.down.items c.in-Some.octets.now c.deref.result.now c.in-Some.ensures.item.3.0

@@ -9,7 +9,7 @@ use Rattle.simulated_link.specs.WorldFields.{world_of}
 use Rattle.simulated_link.proofs.Transit.{happens, lacks}
 use Rattle.simulated_link.proofs.world.World.report.Goals as goal
 
--- the world with another spacecraft, and more on its way down
+-- the world with another spacecraft, and other frames in transit on the downlink
 abbrev with_down : World → SpacecraftState → List (List ℕ) → World
 with_down w spacecraft down = record w { spacecraft = spacecraft; down = down }
 
@@ -27,7 +27,7 @@ returns-then-is_err c =
     (ap (λ xs. record (world_of c.self.inside) { down = octets_of xs }) c.try_reserve.ensures.items ∙ c.self.view_is)
     tt (λ none. none)
 
--- what is accepted stays, and so does what was delivered
+-- the records of what was accepted and delivered stay
 pub invariant_of-self-2 : goal.invariant_of-self-2
 invariant_of-self-2 c = record {
   accepted = c.self.invariant.accepted

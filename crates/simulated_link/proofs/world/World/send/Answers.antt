@@ -9,9 +9,9 @@ use Rattle.simulated_link.specs.World.{world_after_send}
 use Rattle.simulated_link.proofs.Counted.{pull_first, nothing_first}
 use Rattle.simulated_link.proofs.world.World.send.Goals as goal
 
--- What is so once a frame was sent.
+-- What holds after a frame was sent.
 
--- the world with another node on the ground, and more on its way up and sent
+-- the world with another ground node, other frames on the uplink, and another record of what was sent
 abbrev with_sent : World → GroundState → List (List ℕ) → List (List ℕ) → World
 with_sent w ground_node up sent =
     record w { ground_node = ground_node; up = up; session = record w.session { sent = sent } }

@@ -25,7 +25,7 @@ use Rattle.simulated_link.proofs.world.World.submit.Goals.{then-is_err-via-then-
 use Rattle.simulated_link.proofs.world.World.submit.Goals.{then-is_err-via-else-is_err+then-is_err-2, In-Ok}
 use Rattle.simulated_link.proofs.world.World.submit.Goals as goal
 
--- the packets of these submissions that are on MAP m
+-- the packets of these submissions on MAP m
 abbrev packets_on : ℕ → List PacketOn → List (List ℕ)
 packets_on m ps = flat_map (λ (p : PacketOn). packets_in p.octets) (filter (λ (p : PacketOn). p.on_map == m) ps)
 
@@ -42,7 +42,7 @@ one_more m ps p =
     (filter (λ (p : PacketOn). p.on_map == m) (p ∷ []))
     ∙ ap (λ (xs : List (List ℕ)). packets_on m ps ++ xs) (of_one m p (p.on_map == m) refl)
 
--- what is prepared has no fault
+-- a prepared submission has no fault
 taken : {A : Type 0} (fault : Option LinkFault) (x : A) → IfSome fault (λ f. Ok x ≡ Err f) → fault ≡ None
 taken None x refused = refl
 taken (Some f) x refused = cc refused
@@ -53,7 +53,7 @@ after_submit s m octets = (unless_refused (submit_fault s m octets) s (after_sub
 abbrev with_submissions : World → List PacketOn → World
 with_submissions w ps = record w { session = record w.session { submissions = ps } }
 
--- where the ground takes the packets
+-- the case in which the ground accepts the packets
 module _ (c : goal.After-append_on) where
   abbrev p : PacketOn
   p = packet_on c.args.map c.args.octets.now
@@ -118,7 +118,7 @@ returns c =
     ∙ ap (λ (t : GroundState). with_submissions (record (w c) { ground_node = t })
     ((w c).session.submissions ++ submission_of (p c) (step fault).answer)) committed)
 
--- where there is no memory for what is taken
+-- the case in which memory runs out
 wants : (c : In-Ok) (new : World) → new ≡ c.args.self.now
     → LetsHappen (events.Submit c.args.map c.args.octets) c.args.self.now new (Err Memory)
 wants c new same =
@@ -164,7 +164,7 @@ returns-then-is_err c =
       | then-is_err-via-else-is_err+then-is_err-2 x ↦ x.self-is ∙ same
     ])
 
--- where the ground refuses
+-- the case in which the ground refuses
 pub returns-in-Err : goal.returns-in-Err
 returns-in-Err c =
     let s : GroundState = c.self.inside.ground_node in

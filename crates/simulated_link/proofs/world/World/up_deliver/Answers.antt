@@ -25,7 +25,7 @@ use Rattle.simulated_link.specs.declared.reply.Reply.TheVariants as replies
 use Rattle.simulated_link.proofs.world.World.up_deliver.Goals.{After-deref}
 use Rattle.simulated_link.proofs.world.World.up_deliver.Goals as goal
 
--- What an arrival accepts is what its octets lead to.
+-- An arrival's acceptance is that of the segment to be accepted from its octets.
 
 with_packets : (segment : SegmentView) → List (List ℕ) → AcceptanceView
 with_packets segment packets = record { field = segment_octets segment; on_map = segment.header.map; packets = packets }
@@ -108,13 +108,13 @@ invariant_of-self-2 c =
           ∙ ap (λ (s : SpacecraftState). delivered_by s.config m c.self.inside.session.before s.accepted) (sym after);
     }
 
--- the first frame on its way
+-- the octets are those of the first frame in transit
 came : (c : After-deref) → IsFirst c.deref.result.now c.self.inside.up.items
 came c =
     first_there c.self.inside.up.items c.in-Some.octets.now c.deref.result.now c.in-Some.ensures.item.3.0
     c.in-Some.ensures.lookup c.deref.ensures.value
 
--- its data are handed on, and there is no memory for them
+-- the frame's data are to be passed on, and memory runs out
 wants : (c : After-deref) (new : World) → new ≡ c.args.self.now
     → (HandsNothingOn c.self.inside.spacecraft (frame_at On c.deref.result.now) → ⊥)
     → LetsHappen UpDeliver c.args.self.now new (Err Memory)
@@ -155,7 +155,7 @@ returns-then-is_err c =
     cc (c.in-Ok-acceptance_of.ensures.nothing (c.in-Ok.ensures.nothing none)) in
     cc (sym (c.make_room_for.ensures.none nothing) ∙ c.is_err.ensures.negation ∙ ap not c.if-is_err.true))
 
--- octets have arrived
+-- the octets have arrived
 pub returns : goal.returns
 returns c =
     let w : World = world_of c.self.inside in

@@ -9,7 +9,7 @@ use Rattle.stream_commands.proofs.found.SearchTaker.take.Given.{Over}
 use Rattle.stream_commands.proofs.found.SearchTaker.take.Goals as goal
 use Rattle.stream_commands.proofs.found.SearchTaker.take.Goals.{In-Ok-list_found}
 
--- what is found from where the search stands, and from where it stood
+-- what is found from the state of the search, and from its state before
 same : (g : Over) (c : In-Ok-list_found g) (more : List ℕ)
     → let l = c.args.self.now in let q = c.list_found.new.progress in
     from_here g.C.Listing.lines l.scid l.vcid (standing (written c.list_found.new.text) c.list_found.new.listing q)

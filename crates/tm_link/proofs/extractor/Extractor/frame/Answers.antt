@@ -9,7 +9,7 @@ use Rattle.tm_link.proofs.Choices.{extraction_exact}
 use Rattle.std.proofs.lemmas.Grind.{common_steps}
 use Rattle.tm_link.proofs.extractor.Extractor.frame.Goals as goal
 
--- One frame more adds to what arrives just what the extractor hands out with it.
+-- One more frame adds to what arrives exactly what the extractor delivers with it.
 
 choice-none : (frames : List FrameView) → choice frames [] ≡ []
 choice-none [] = refl
