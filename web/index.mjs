@@ -1,7 +1,11 @@
 // What the package for JavaScript exports: `await load()` comes first, then nodes are opened.
 export { numbers } from './sedgechisel.mjs';
 export { Ground, Spacecraft, load } from './nodes.mjs';
+export {
+    Action, BoardStatus, Executor, commandPacket, historyAfter, newRecord, rebuildOrder, restartOrder,
+} from './executor.mjs';
 export { Link } from './simulated.mjs';
 export {
-    Alert, Clcw, ClcwFault, ConfigFault, CopFault, Fault, LinkFault, SimFault, TcFault, TelemetryFault, TmFault,
+    Alert, Clcw, ClcwFault, ConfigFault, CopFault, Fault, LinkFault, LogFault, SimFault, TcFault, TelemetryFault,
+    TmFault,
 } from './values.mjs';

@@ -17,23 +17,23 @@ export interface Config {
     /** The timer's value in ticks, 1 to 65,535; default 10. */
     timer: number;
     /**
-     * The most octets of data in a segment, 1 to 1,016 (without silence before an initiation, segments of two longer
-     * packets can be joined into a command that nobody submitted); default 1,016.
+     * The maximum number of data octets in a segment. Without silence before an initiation, segments of two longer
+     * packets can be joined into a command that nobody submitted. Range 1 to 1,016; default 1,016.
      */
     part: number;
-    /** The most octets of a packet, 7 to 65,542; default 65,542. */
+    /** The maximum length of a packet in octets, 7 to 65,542; default 65,542. */
     maxPacket: number;
-    /** Bit m, which counts 2 to the power of m, says that MAP m is open, any 64 bits; default all ones. */
+    /** The open MAPs, any 64 bits: bit m, of value 2 to the power of m, is 1 if MAP m is open; default all ones. */
     maps: number | bigint;
     /** The number of packets waiting to be taken at which the buffer on board is full, 1 to 64; default 64. */
     readySlots: number;
-    /** The most packets of bypass frames that wait to be taken, 1 to 64; default 4. */
+    /** The maximum number of bypass packets that wait to be taken, 1 to 64; default 4. */
     bypassSlots: number;
-    /** The most units that wait to be sent for the first time, 1 to 65,535; default 1,000. */
+    /** The maximum number of units that wait to be sent for the first time, 1 to 65,535; default 1,000. */
     queueSlots: number;
-    /** The octets of a telemetry frame, 16 to 2,048; default 64. */
+    /** The length of a telemetry frame in octets, 16 to 2,048; default 64. */
     frameLength: number;
-    /** 1 where a segment may hold several packets, 0 to 1; default 0. */
+    /** 1 if a segment may contain several packets, 0 to 1; default 0. */
     blocking: number;
 }
 
@@ -45,6 +45,8 @@ export type HeardKind = 'INVALID' | 'FOREIGN' | 'FRAME' | 'CLCW';
 export type Report = 'USED' | 'REFUSED' | 'OTHER_CHANNEL';
 export type Command = 'UNLOCK' | 'SET_VR';
 export type Begun = 'NOT' | 'WITHOUT_CHECK' | 'WITH_CHECK' | 'UNLOCK' | 'SET_VR';
+export type ActionKind = 'NOTHING' | 'WRITE_FIRST' | 'WRITE_SECOND' | 'EXECUTE' | 'RESTART';
+export type StatusKind = 'SAYS' | 'CHANGES' | 'STARTS' | 'LOST';
 
 declare global {
     // Of the library of TypeScript where it has `using`; empty where it does not.
@@ -63,5 +65,7 @@ export const members: {
     heard_report: Record<number, Report>;
     command: Record<number, Command>;
     begun: Record<number, Begun>;
+    log_action: Record<number, ActionKind>;
+    log_status_kind: Record<number, StatusKind>;
 };
 export const ranges: Record<string, string>;

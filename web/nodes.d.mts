@@ -38,7 +38,7 @@ export class Handle extends Handle_base {
      */
     protected read<T>(call: (raw: any, into: T) => number): T;
     /**
-     * The octets that a call takes, of which another one says the number; null where there are none.
+     * The octets that a call takes, after another call has returned their number; null if there are none.
      * @protected
      * @param {(raw: any, count: { value?: number }) => number} next
      * @param {(raw: any, out: Uint8Array, count: { value?: number }) => number} take
@@ -64,8 +64,7 @@ export class Directing extends Handle {
     /** Directive: initiate without CLCW check: S6 to S1. Throws CopFault 8 (WrongState) unless in S6. */
     initWithoutCheck(): void;
     /**
-     * Directive: initiate with CLCW check: S6 to S4, until a report agrees. Throws CopFault 8 (WrongState) unless in
-     * S6.
+     * Directive: initiate with CLCW check: S6 to S4, until a CLCW agrees. Throws CopFault 8 (WrongState) unless in S6.
      */
     initWithCheck(): void;
     /** Directive: initiate with Unlock: S6 to S5, and Unlock is sent. Throws CopFault 8 (WrongState) unless in S6. */
@@ -77,7 +76,7 @@ export class Directing extends Handle {
      */
     initSetVr(vr: number): void;
     /**
-     * Directive: terminate: to S6 with the alert Terminated, which lets go of all units. Throws CopFault 8 (WrongState)
+     * Directive: terminate: to S6 with the alert Terminated, which discards all units. Throws CopFault 8 (WrongState)
      * in S6.
      */
     terminate(): void;
@@ -116,18 +115,17 @@ export class Ground extends Directing {
      */
     constructor(config?: Partial<import("./meanings.mjs").Config> | undefined, kept?: Partial<KeptGround> | undefined);
     /**
-     * Returns what is kept of the ground, in one record of fixed size, and the ground stays as it was. A program stores
-     * the record after each call, and after a pull before the frame goes out; where the ground is lost, `new
-     * Ground(config, kept)` opens another at it. Of submissions that were not sent whole nothing is kept, nor of bypass
-     * packets, of telemetry, and of what directives set.
+     * Returns the ground's record, which has a fixed size; the ground does not change. A program stores the record
+     * after each call, and after a pull before the frame goes out. If the ground is lost, `new Ground(config, kept)`
+     * opens another one from the record. The record contains nothing of submissions that were not sent whole, of bypass
+     * packets, of telemetry, or of what directives set.
      * @returns {KeptGround}
      */
     get kept(): KeptGround;
     /**
-     * Submits packets on a MAP, to be sent under sequence control: one, or several where blocking is on. Throws the
-     * first of LinkFault 1 to 5 that applies, or LinkFault 6 (Memory). sedge_map_count says in how many segments they
-     * go. That `resume` counts a submission right is promised of one packet, and of packets that go in one segment
-     * together.
+     * Submits one packet on a MAP under sequence control, or several if blocking is on. Throws the first of LinkFault 1
+     * to 5 that applies, or LinkFault 6 (Memory). sedge_map_count returns the number of their segments. The promise
+     * that `resume` counts a submission correctly covers one packet, and packets that share one segment.
      * @param {number} map
      * @param {Uint8Array} packets
      * @returns {number} the number of this submission in its session, from 0
@@ -141,15 +139,15 @@ export class Ground extends Directing {
      */
     trySubmit(map: number, packets: Uint8Array): number | null;
     /**
-     * Submits one packet on a MAP past the sequence control. Throws the first of LinkFault 2 to 5 that applies, or
-     * LinkFault 6 (Memory).
+     * Submits one packet on a MAP by bypass (Type-BD). Throws the first of LinkFault 2 to 5 that applies, or LinkFault
+     * 6 (Memory).
      * @param {number} map
      * @param {Uint8Array} packet
      */
     bypass(map: number, packet: Uint8Array): void;
     /**
-     * Takes the frame that goes on the link next, with its FECF (232.0-B-4, 4.1): returns it; or null where nothing is
-     * to be sent.
+     * Takes the next frame for the link, with its FECF (232.0-B-4, 4.1). Returns it and the number of its octets, or 0
+     * octets if nothing is to be sent.
      * @returns {Uint8Array | null}
      */
     pull(): Uint8Array | null;
@@ -160,17 +158,15 @@ export class Ground extends Directing {
      */
     frames(): Generator<Uint8Array, void, undefined>;
     /**
-     * Returns the frame that goes on the link next as `pull` does; the ground stays as it was. With `advance` the frame
-     * counts as sent once a radio that may refuse it has taken it.
+     * Returns the next frame for the link as `pull` does; the ground does not change. Call `advance`, and the frame
+     * counts as sent, once a radio that may refuse it has taken it.
      * @returns {Uint8Array | null}
      */
     peek(): Uint8Array | null;
-    /**
-     * Counts the frame that goes on the link next as sent, as `pull` does; nothing changes where nothing is to be sent.
-     */
+    /** Counts the next frame for the link as sent, as `pull` does. If nothing is to be sent, nothing changes. */
     advance(): void;
     /**
-     * Takes octets that came from the spacecraft, and returns what they are. Throws LinkFault 6 (Memory) where they
+     * Takes octets that came from the spacecraft, and returns what they are. Throws LinkFault 6 (Memory), only if they
      * finish a packet.
      * @param {Uint8Array} octets
      * @returns {Heard}
@@ -185,29 +181,30 @@ export class Ground extends Directing {
      */
     telemetryAll(octets: Uint8Array, length: number): Generator<Heard, void, undefined>;
     /**
-     * Takes a report that came by itself, a CLCW as a front end hands it on (232.0-B-4, 4.2), and returns what becomes
-     * of it, as `telemetry` does of the report in a telemetry frame; telemetry is not touched. The last one may be
-     * handed on again before the next, which changes nothing; an older one may not come again as if it were new.
+     * Takes a CLCW that came by itself, as a front end forwards it (232.0-B-4, 4.2), and returns what becomes of it, as
+     * `telemetry` does for the CLCW of a telemetry frame. Telemetry is not touched. The front end may repeat the last
+     * CLCW before the next one, which changes nothing; it may not forward an older one as if it were new.
      * @param {Uint8Array} word
      * @returns {Heard}
      * @throws {RangeError} unless the octets are four
      */
     clcw(word: Uint8Array): Heard;
     /**
-     * Begins to take packets out of telemetry anew, as after a restart of the spacecraft, whose counts go on elsewhere:
-     * a packet that is not finished is dropped, and the next frame is the first (132.0-B-3, 4.3.2). Packets that wait
-     * to be taken stay.
+     * Restarts the extraction of packets from telemetry, for example after a restart of the spacecraft, whose frame
+     * counts then continue elsewhere. An unfinished packet is dropped, and the next frame is the first (132.0-B-3,
+     * 4.3.2). Packets that wait to be taken stay.
      */
     forgetTelemetry(): void;
     /**
-     * Returns the report that a telemetry frame carries, of whichever spacecraft and virtual channel (232.0-B-4, 4.2);
-     * the ground stays as it was. Returns null if the octets are no frame or the frame carries no report.
+     * Returns the CLCW that a telemetry frame of any spacecraft and virtual channel carries (232.0-B-4, 4.2); the
+     * ground does not change. Returns null if the octets do not form a valid frame or the frame carries no CLCW.
      * @param {Uint8Array} octets
      * @returns {Clcw | null}
      */
     clcwIn(octets: Uint8Array): Clcw | null;
     /**
-     * Takes the oldest packet of telemetry (132.0-B-3, 4.3.2): returns it; or null where none waits.
+     * Takes the oldest telemetry packet (132.0-B-3, 4.3.2). Returns it and the number of its octets, or 0 octets if
+     * none waits.
      * @returns {Uint8Array | null}
      */
     takeTelemetry(): Uint8Array | null;
@@ -217,60 +214,62 @@ export class Ground extends Directing {
      */
     packets(): Generator<Uint8Array, void, undefined>;
     /**
-     * A tick of the clock has passed. Returns the alert, or null for none.
+     * Counts a tick of the clock. Returns the alert, or null for none.
      * @returns {Alert | null}
      */
     tick(): Alert | null;
     /**
-     * Returns how many of the segments that were sent and not acknowledged were accepted on board when a report of this
-     * value was made: the oldest ones (232.1-B-2, 5.1). It does so after an alert too, until V(S) is set or an
-     * initiation begins, and goes by the numbers alone: after an alert that shows a broken condition nothing of them is
-     * known, whatever it returns. If V(S) is NN(R) there are no such segments, and it returns 0 whatever the value.
-     * Returns null if there are and the value does not lie from NN(R) to V(S), so that nothing is known of them.
+     * Returns how many of the segments that were sent and not acknowledged were accepted on board when a CLCW of this
+     * value was made. They are the oldest ones (232.1-B-2, 5.1). The call does so after an alert too, until V(S) is set
+     * or an initiation begins. It uses only the numbers: after an alert that shows a broken condition nothing is known
+     * of these segments, whatever the call returns. If V(S) is NN(R), there are no such segments, and the call returns
+     * 0 for every value. Returns null if there are such segments and the value does not lie from NN(R) to V(S), so that
+     * nothing is known of them.
      * @param {number} value
      * @returns {number | null}
      */
     acceptedBeyond(value: number): number | null;
     /**
-     * Returns how many first submissions of the session are known to be on board whole by a report of this value: those
-     * that are acknowledged, and those all of whose segments it says were accepted (232.1-B-2, 5.1). It does so after
-     * an alert too. Returns null where nothing is known: no session has begun, V(S) was set since, an alert came since
-     * that shows a broken condition, or V(S) is not NN(R) and the value does not lie from NN(R) to V(S).
+     * Returns how many of the session's submissions, from the first on, are known to be on board whole from a CLCW of
+     * this value. They are those that are acknowledged, and those whose segments were all accepted according to the
+     * CLCW (232.1-B-2, 5.1). The call does so after an alert too. Returns null where nothing is known: no session has
+     * begun, V(S) was set since, an alert has shown a broken condition since, or V(S) is not NN(R) and the value does
+     * not lie from NN(R) to V(S).
      * @param {number} value
      * @returns {number | null}
      */
     knownOnBoard(value: number): number | null;
     /**
-     * Begins the next session after an alert, where the last one has got to: sets V(S) to the value of a report that
-     * was made when nothing was on its way up, begins by Unlock (232.1-B-2, 5.2.4), and returns how many first
-     * submissions of the session of the session that ended are on board whole, counted within that session; those after
-     * them are to be submitted again. A submission of more octets than a segment takes (part) that holds several
-     * packets is whole only with its last one, so that some of its packets may be on board before, and come again.
-     * Throws LinkFault 10 (NotKnown), and nothing has changed: the sender is not in S6, no session has begun, V(S) was
-     * set since, an alert came since that shows a broken condition, or V(S) is not NN(R) and the value does not lie
-     * from NN(R) to V(S).
+     * Begins the next session after an alert, from where the last one has got to. Sets V(S) to the value of a CLCW that
+     * was made when nothing was in transit on the uplink, and begins by Unlock (232.1-B-2, 5.2.4). Returns how many of
+     * the ended session's submissions, from the first on, are on board whole, counted within that session; resubmit
+     * those after them. A submission of several packets that has more octets than a segment takes (part) is whole only
+     * with its last packet. Some of its packets may therefore be on board already, and be delivered again. Throws
+     * LinkFault 10 (NotKnown), and nothing has changed: the sender is not in S6, no session has begun, V(S) was set
+     * since, an alert has shown a broken condition since, or V(S) is not NN(R) and the value does not lie from NN(R) to
+     * V(S).
      * @param {number} value
      * @returns {number}
      */
     resume(value: number): number;
     /**
-     * The number of submissions of the session; they count from 0. This and the two below: modulo 2^64, after an alert
-     * too, and 0 once V(S) is set.
+     * The number of submissions of the session; they count from 0. This number and the two below are modulo 2^64, also
+     * after an alert, and 0 once V(S) is set.
      * @returns {number}
      */
     get submitted(): number;
     /**
-     * How many first submissions of the session were sent whole, each to its last segment.
+     * How many of the session's submissions, from the first on, were sent whole, each to its last segment.
      * @returns {number}
      */
     get sentWhole(): number;
     /**
-     * How many first submissions of the session are acknowledged whole, so that they are on board.
+     * How many of the session's submissions, from the first on, are acknowledged whole, so that they are on board.
      * @returns {number}
      */
     get acknowledgedWhole(): number;
     /**
-     * The state of the sender (232.1-B-2, 5.1).
+     * The sender's state (232.1-B-2, 5.1).
      * @returns {State}
      */
     get state(): import("./meanings.mjs").State;
@@ -290,12 +289,12 @@ export class Ground extends Directing {
      */
     get outstanding(): number;
     /**
-     * How many of the outstanding segments wait to be sent for the first time.
+     * How many outstanding segments wait to be sent for the first time.
      * @returns {number}
      */
     get unsent(): number;
     /**
-     * How many of the outstanding segments are to be sent again.
+     * How many outstanding segments are to be retransmitted.
      * @returns {number}
      */
     get due(): number;
@@ -305,7 +304,7 @@ export class Ground extends Directing {
      */
     get bypassed(): number;
     /**
-     * The ticks that are left of the timer, or 0 where it does not run.
+     * The ticks that are left while the timer runs, otherwise 0.
      * @returns {number}
      */
     get ticks(): number;
@@ -334,20 +333,20 @@ export class Spacecraft extends Handle {
      */
     constructor(config?: Partial<import("./meanings.mjs").Config> | undefined, kept?: Partial<KeptNumbers> | undefined);
     /**
-     * Takes octets that came from the ground, and returns what they are. Throws LinkFault 6 (Memory) where a frame's
-     * data are handed on.
+     * Takes octets that came from the ground, and returns what they are. Throws LinkFault 6 (Memory), only if a frame's
+     * data are passed on.
      * @param {Uint8Array} octets
      * @returns {Received}
      */
     receive(octets: Uint8Array): Received;
     /**
-     * Takes the oldest packet of sequence-controlled frames (232.0-B-4, 4.4): returns its MAP and the packet; or null
-     * where none waits.
+     * Takes the oldest packet of sequence-controlled frames (232.0-B-4, 4.4). Returns its MAP and the packet; or only 0
+     * octets if none waits.
      * @returns {OnMap | null}
      */
     take(): OnMap | null;
     /**
-     * Takes the oldest packet that came past the sequence control (232.0-B-4, 4.4), as `take` does.
+     * Takes the oldest bypass packet (232.0-B-4, 4.4), as `take` does.
      * @returns {OnMap | null}
      */
     takeBypass(): OnMap | null;
@@ -365,7 +364,7 @@ export class Spacecraft extends Handle {
     bypassPackets(): Generator<OnMap, void, undefined>;
     /**
      * Queues a packet to be sent as telemetry (132.0-B-3, 4.2.2). Throws the first of TelemetryFault 8 (NotAPacket)
-     * (the octets are not exactly one packet, or an idle one) and TelemetryFault 7 (Memory).
+     * (the octets are not exactly one packet, or are an idle one) and TelemetryFault 7 (Memory).
      * @param {Uint8Array} packet
      */
     telemetry(packet: Uint8Array): void;
@@ -385,7 +384,7 @@ export class Spacecraft extends Handle {
      */
     get controlWord(): Clcw;
     /**
-     * The state of the receiver.
+     * The receiver's state.
      * @returns {Mode}
      */
     get mode(): import("./meanings.mjs").Mode;
@@ -395,7 +394,7 @@ export class Spacecraft extends Handle {
      */
     get ready(): number;
     /**
-     * How many packets that came past the sequence control wait to be taken.
+     * How many bypass packets wait to be taken.
      * @returns {number}
      */
     get bypassed(): number;

@@ -1,14 +1,14 @@
-// Tests the classes for JavaScript: `node nodes_tests.mjs MODULE`. A session over both nodes, faults, alerts, records that are
-// kept, iterators, closed nodes, the simulated link, each wrong argument of each method, and that each name of the package
-// for Python is there. It ends with 0 where all is as wanted, and with an Error that says what is not.
+// Tests the classes for JavaScript: `node nodes_tests.mjs MODULE`. A session over both nodes, faults, alerts, records
+// that are kept, iterators, closed nodes, the simulated link, each wrong argument of each method, and that each name of
+// the package for Python is there. It ends with 0 where all is as wanted, and with an Error that says what is not.
 import assert from 'node:assert/strict';
 import { readFileSync } from 'node:fs';
 import { setTimeout } from 'node:timers/promises';
 import { setFlagsFromString } from 'node:v8';
 import { runInNewContext } from 'node:vm';
 import {
-    Clcw, ClcwFault, ConfigFault, CopFault, Ground, Link, LinkFault, SimFault, Spacecraft, TcFault, TelemetryFault, TmFault,
-    load,
+    Clcw, ClcwFault, ConfigFault, CopFault, Ground, Link, LinkFault, LogFault, SimFault, Spacecraft, TcFault, TelemetryFault,
+    TmFault, load,
 } from './index.mjs';
 import { digitsOf, octetsOf } from './link.mjs';
 
@@ -27,7 +27,8 @@ function session() {
     assert.equal(ground.state, 'S6');
     refused(() => ground.submit(4, PACKET), LinkFault, 1, 'NotOpen', 'S6');
     ground.initUnlock();
-    assert.deepEqual([ground.submit(4, PACKET), ground.submit(4, OTHER), ground.outstanding, ground.unsent], [0, 1, 2, 2]);
+    assert.deepEqual(
+        [ground.submit(4, PACKET), ground.submit(4, OTHER), ground.outstanding, ground.unsent], [0, 1, 2, 2]);
     const kinds = [...ground.frames()].map((it) => spacecraft.receive(it));
     assert.deepEqual([kinds.length, kinds[0].kind, kinds[0].command, ground.ticks], [1, 'BC', 'UNLOCK', 3]);
     spacecraft.telemetry(TELEMETRY);
@@ -35,7 +36,9 @@ function session() {
     assert.deepEqual([heard.kind, heard.gap, heard.packets, heard.report, heard.alert], ['TM', null, 1, 'USED', null]);
     assert.deepEqual([heard.word.value, heard.word.farmB, heard.word.vcid, heard.word.lockout], [0, 1, 2, false]);
     const received = [...ground.frames()].map((it) => spacecraft.receive(it));
-    assert.deepEqual(received.map((it) => [it.kind, it.n, it.verdict, it.ready]), [['AD', 0, 'ACCEPTED', 1], ['AD', 1, 'ACCEPTED', 1]]);
+    assert.deepEqual(
+        received.map((it) => [it.kind, it.n, it.verdict, it.ready]),
+        [['AD', 0, 'ACCEPTED', 1], ['AD', 1, 'ACCEPTED', 1]]);
     assert.equal(ground.clcw(spacecraft.controlWord.encode()).kind, 'CLCW');
     assert.deepEqual([ground.outstanding, ground.acknowledgedWhole, ground.sentWhole, ground.submitted], [0, 2, 2, 2]);
     assert.deepEqual([...spacecraft.packets()], [{ map: 4, packet: PACKET }, { map: 4, packet: OTHER }]);
@@ -57,7 +60,9 @@ function telemetry() {
     assert.equal(ground.clcwIn(frames[0]).value, 0);
     assert.equal(ground.clcwIn(frames[0].subarray(1)), null);
     const all = Uint8Array.from([...frames[0], ...frames[1], 7]);
-    assert.deepEqual([...ground.telemetryAll(all, length)].map((it) => [it.kind, it.gap]), [['TM', null], ['TM', 0], ['INVALID', null]]);
+    assert.deepEqual(
+        [...ground.telemetryAll(all, length)].map((it) => [it.kind, it.gap]),
+        [['TM', null], ['TM', 0], ['INVALID', null]]);
     for (const wrong of [15, 2049]) assert.throws(() => ground.telemetryAll(all, wrong), RangeError);
     ground.forgetTelemetry();
     assert.deepEqual([ground.telemetry(spacecraft.telemetryFrame()).gap, [...ground.packets()]], [null, [TELEMETRY]]);
@@ -74,7 +79,8 @@ function directives() {
         refused(() => it.setTimer(0), CopFault, 4, 'Timer', '0');
         refused(() => it.terminate(), CopFault, 8, 'WrongState', 'not allowed');
         it.setTimer(65535);
-        const begun = [() => it.initWithoutCheck(), () => it.initWithCheck(), () => it.initUnlock(), () => it.initSetVr(9)];
+        const begun = [
+            () => it.initWithoutCheck(), () => it.initWithCheck(), () => it.initUnlock(), () => it.initSetVr(9)];
         const states = begun.map((init) => { init(); const { state } = it; it.terminate(); return state; });
         assert.deepEqual([states, it.vs], [['S1', 'S4', 'S5', 'S5'], 9]);
     }
@@ -110,14 +116,15 @@ function fullQueue() {
     refused(() => ground.trySubmit(4, PACKET), LinkFault, 1, 'NotOpen', 'S6');
     ground.initWithoutCheck();
     assert.deepEqual([ground.trySubmit(4, PACKET), ground.trySubmit(4, OTHER), ground.submitted], [0, null, 1]);
-    refused(() => ground.submit(4, OTHER), LinkFault, 5, 'QueueFull', 'waiting');
+    refused(() => ground.submit(4, OTHER), LinkFault, 5, 'QueueFull', 'as many units wait');
 }
 
 function configs() {
     refused(() => new Ground({ width: 7 }), ConfigFault, 4, 'width', 'even, 2 to 254');
     refused(() => new Link({ maxPacket: 6 }), ConfigFault, 9, 'maxPacket', '7 to 65,542');
     assert.deepEqual([new Ground({ maxPacket: 100 }).config.maxPacket, new Ground().config.maps], [100, 2n ** 64n - 1n]);
-    for (const wrong of [{ windw: 4 }, { max_packet: 100 }, { window: undefined }, { window: '4' }, { toString: 4 }, 4, null, []]) {
+    for (const wrong of [
+        { windw: 4 }, { max_packet: 100 }, { window: undefined }, { window: '4' }, { toString: 4 }, 4, null, []]) {
         for (const kind of [Ground, Spacecraft, Link]) assert.throws(() => new kind(wrong), TypeError);
     }
     for (const wrong of [{ window: 2 ** 32 + 4 }, { timer: -1 }, { maps: 2n ** 64n }]) {
@@ -127,7 +134,8 @@ function configs() {
 
 function words() {
     const word = new Clcw({ vcid: 2, flags: 0x30, value: 9 });
-    assert.deepEqual([word.wait, word.lockout, word.retransmit, word.noRf, word.noBitLock], [true, true, false, false, false]);
+    assert.deepEqual(
+        [word.wait, word.lockout, word.retransmit, word.noRf, word.noBitLock], [true, true, false, false, false]);
     assert.equal(digitsOf(word.encode()), '01083009');
     assert.deepEqual(Clcw.decode(word.encode()), word);
     refused(() => new Clcw({ vcid: 64 }).encode(), ClcwFault, 5, 'Range', 'too large');
@@ -157,13 +165,15 @@ function linked() {
     link.bypass(5, PACKET);
     assert.equal(link.bypassUnsent, 1);
     link.send();
-    assert.deepEqual([link.upDeliver().kept, link.bypassReady, link.takeBypass()], [true, 1, { map: 5, packet: PACKET }]);
+    assert.deepEqual(
+        [link.upDeliver().kept, link.bypassReady, link.takeBypass()], [true, 1, { map: 5, packet: PACKET }]);
     link.telemetry(TELEMETRY);
     link.report();
     assert.equal(link.downDeliver().packets, 1);
     link.report();
     link.downLose();
-    assert.deepEqual([link.controlWord.farmB, link.count, link.ticks, link.confirmed, link.idle], [1, 1, 0, false, true]);
+    assert.deepEqual(
+        [link.controlWord.farmB, link.count, link.ticks, link.confirmed, link.idle], [1, 1, 0, false, true]);
     link.terminate();
     assert.equal(link.resume(1), 1);
     refused(() => link.resume(1), LinkFault, 10, 'NotKnown', 'nothing');
@@ -243,7 +253,7 @@ function texts() {
     const header = readFileSync(new URL('../c/include/sedgechisel_faults.h', import.meta.url), 'utf8');
     const kinds = {
         clcw_fault: ClcwFault, cop_fault: CopFault, tc_fault: TcFault, tm_fault: TmFault, link_fault: LinkFault,
-        sim_fault: SimFault, parameter: ConfigFault,
+        sim_fault: SimFault, log_fault: LogFault, parameter: ConfigFault,
     };
     for (const [call, kind] of Object.entries(kinds)) {
         const body = header.split(`*sedge_${call}_text(`)[1].split('\n}')[0];
@@ -272,7 +282,7 @@ function names() {
 
 // The comments of the classes are in the words of JavaScript: of C they name only a call that no class has.
 function comments() {
-    for (const file of ['nodes', 'simulated', 'values']) {
+    for (const file of ['nodes', 'simulated', 'executor', 'values']) {
         const text = readFileSync(new URL(`${file}.mjs`, import.meta.url), 'utf8').replace(/import\('[^']*'\)\.\w+/g, '');
         for (const [comment] of text.matchAll(/\/\*\*[^]*?\*\//g)) {
             assert.ok(!/sedge_(?!config|map_count)|[;,:] writes |\* Writes |Returns 0[,.]/i.test(comment), comment);

@@ -1,5 +1,6 @@
-"""The comments of the headers as JSDoc, for web/bindings: those of calls and fields as they stand, and those of methods,
-getters, directives and events in the words of the classes of web/nodes.mjs and web/simulated.mjs."""
+"""Writes the comments of the headers as JSDoc, for web/bindings: those of calls and fields unchanged, and those of
+methods, getters, directives and events in the words of the classes of web/nodes.mjs, web/simulated.mjs and
+web/executor.mjs."""
 import re
 import textwrap
 
@@ -16,19 +17,30 @@ CLASSES = {
     "Ground": ("ground", ("ground_reading",)),
     "Spacecraft": ("spacecraft", ("spacecraft_reading",)),
     "Link": ("sim", ("sim_reading", "ground_reading", "spacecraft_reading")),
+    "Executor": ("log", ()),
 }
 FAULTS = {"NODE": "LinkFault", "TM": "TelemetryFault", "SIM": "SimFault", "COP": "CopFault"}
 # A getter that has another name than its field.
 RENAMED = {("Spacecraft", "mode"): "state"}
 # What the note of a field says, and what a getter says, which stands by itself.
 FIELD_SAID = (
-    (r"^[Oo]f the (.*?), of sedge_\w+", r"the state of the \1"),
+    (r"^([Tt]he (?:.*? state|state of .*?)), of sedge_\w+", r"\1"),
     (r"^[Oo]f telemetry, in octets", "the length of a telemetry frame, in octets"),
     (r"^[Ii]t (?=began|had)", "whether the session "),
     (r"^[Aa] report (?=has taken)", "whether a CLCW "),
 )
 # What C says, and what a class says: octets and numbers are returned, a fault is thrown, and null is nothing.
 SAID = (
+    (r", of sedge_log_action: it", ": it"),
+    (r" For a write, out gets .*? for any other action\.", ""),
+    (r" (?:Or returns|Returns 0, or) the first of SEDGE_WRONG_COUNT[^.]*\.", ""),
+    (r"returned, with its number, was done", "returned last was done"),
+    (r"Returns 0; or it changes nothing and returns the first of SEDGE_DAMAGED and SEDGE_ABSENT, if .*",
+     "Throws an Error, and changes nothing, if this is another action."),
+    (r"and writes where (the mission's octets) are in them: keep [^.]*\.", r"and returns \1 in them."),
+    (r"Returns 0; or it changes (?:and writes )?nothing, the packet is dropped, and [^:]* of sedge_log_fault:",
+     "Throws LogFault, and changes nothing, for any other packet, which is dropped:"),
+    (r"SEDGE_LOG_(\w+)", r"\1"),
     (r"(\w+), (the \w+), and the number of its octets", r"\1 and \2"),
     (r", and the number of its octets, which is frame_length", ": `frameLength` octets"),
     (r"(?:, and the number of its octets)?; or 0 octets(?: alone)? where", "; or null where"),
@@ -77,8 +89,9 @@ def translated(text, known, is_nullable):
         text = re.sub(words, other, text)
     text = re.sub(ABSENT, "Returns null", text) if is_nullable else re.sub(rf" ?{ABSENT}[^.]*\.", "", text)
     text = re.sub(r"SEDGE_(NODE|TM|SIM|COP)_(\w+)", numbered(known), text)
-    text = re.sub(r"sedge_(ground|spacecraft)_open_kept\b", lambda it: f"`new {it[1].capitalize()}(config, kept)`", text)
-    text = re.sub(r"sedge_(?:ground|spacecraft|sim)_(\w+)", lambda it: f"`{js(it[1])}`", text)
+    text = re.sub(
+        r"sedge_(ground|spacecraft)_open_kept\b", lambda it: f"`new {it[1].capitalize()}(config, kept)`", text)
+    text = re.sub(r"sedge_(?:ground|spacecraft|sim|log)_(\w+)", lambda it: f"`{js(it[1])}`", text)
     return " ".join(text.split())
 
 
@@ -87,7 +100,8 @@ def event_note(note, name):
     note = re.sub(r": (?:map|octets|directive|value).*", "", note)
     frame = f"the first frame on its way {name.split('_')[0].lower()}"
     note = re.sub(r"^it is lost", f"{frame} is lost", note)
-    note = re.sub(r"^these arrive in its place, which are no frame", f"these octets, which are no frame, arrive in place of {frame}", note)
+    note = re.sub(r"^these arrive in its place, which are no frame",
+                  f"these octets, which are no frame, arrive in place of {frame}", note)
     return sentence(note)
 
 
@@ -157,7 +171,8 @@ def with_notes(text, notes):
         if not said:
             return it[0]
         tags = [re.sub(r"\s*\*?\s*$", "", line.strip().removeprefix("* ")) for tag in tags for line in tag.split("\n")]
-        made = block(" " * 4, [*textwrap.wrap(said, WIDE - 7, break_on_hyphens=False), *tags]) if tags else jsdoc(" " * 4, said)
+        wrapped = [*textwrap.wrap(said, WIDE - 7, break_on_hyphens=False), *tags]
+        made = block(" " * 4, wrapped) if tags else jsdoc(" " * 4, said)
         return f"{made}    {it['get'] or ''}{it['name']}("
 
     member = r"    /\*\*(?P<doc>(?:(?!\*/)[\s\S])*)\*/\n    (?P<get>get )?(?P<name>[a-z]\w*)\("

@@ -1,7 +1,7 @@
-// Tests that each call refuses each wrong argument, and then does not run: `node refusals.mjs MODULE` reads the calls and
-// the structs of the headers from standard input, as web/refusals writes them. Octets, a struct, an element of an array,
-// a field of a struct in a struct: each is tried with values that its C type cannot hold (RangeError), and with values of
-// another kind (TypeError).
+// Tests that each call refuses each wrong argument, and then does not run: `node refusals.mjs MODULE` reads the calls
+// and the structs of the headers from standard input, as web/refusals writes them. Octets, a struct, an element of an
+// array, a field of a struct in a struct: each is tried with values that its C type cannot hold (RangeError), and with
+// values of another kind (TypeError).
 import assert from 'node:assert/strict';
 import { readFileSync } from 'node:fs';
 import { load } from './sedgechisel.mjs';

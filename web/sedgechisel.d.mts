@@ -8,7 +8,7 @@ export interface sedge_part {
 export interface sedge_clcw {
     /** The status field, 3 bits, which is carried and not interpreted. */
     status: number;
-    /** The virtual channel that is reported on, 6 bits. */
+    /** The virtual channel that the CLCW reports on, 6 bits. */
     vcid: number;
     /** The flags. */
     flags: number;
@@ -19,7 +19,7 @@ export interface sedge_clcw {
 }
 
 export interface sedge_farm {
-    /** Of both windows together; each is half of it. */
+    /** The width of both windows together; each is half of it. */
     width: number;
     /** V(R), the number of the next frame to be accepted. */
     vr: number;
@@ -36,7 +36,7 @@ export interface sedge_fop {
     timer: number;
     /** The ticks that are left while the timer runs, and 0 while it is off. */
     ticks: number;
-    /** Half the receiver's window width, 1 to 127: the most units sent and not acknowledged. */
+    /** Half the receiver's window width, 1 to 127: the maximum number of units sent and not acknowledged. */
     room: number;
     /** Of `sedge_fop_state`. */
     state: number;
@@ -48,7 +48,7 @@ export interface sedge_fop {
     waiting: number;
     /** The number of units sent and not acknowledged, at most room. */
     sent: number;
-    /** The number of these, the last ones, that are due to be sent again. */
+    /** The number of these, the last ones, that are due to be retransmitted. */
     due: number;
     /** The window K, 1 to room. */
     window: number;
@@ -82,7 +82,7 @@ export interface sedge_tc_frame {
 }
 
 export interface sedge_packet {
-    /** The application process identifier, below 2,048; 2,047 is that of idle packets (4.1.3.3.4). */
+    /** The application process identifier, below 2,048; idle packets have 2,047 (4.1.3.3.4). */
     apid: number;
     /** The sequence count or the packet's name, below 16,384 (4.1.3.4.3). */
     count: number;
@@ -95,7 +95,7 @@ export interface sedge_packet {
 }
 
 export interface sedge_gap_check {
-    /** By APID; above 16,383 where no packet of it was seen. */
+    /** By APID; above 16,383 if no packet of the APID was seen. */
     last: number[];
 }
 
@@ -119,24 +119,24 @@ export interface sedge_tm_builder {
     from: number;
     /** The number of octets that are to be sent. */
     count: number;
-    /** The number of these that are left of the packet that was begun, the first ones. */
+    /** The number of these, the first ones, that are left of the packet that was begun. */
     begun: number;
     /** The spacecraft identifier, below 1,024. */
     scid: number;
-    /** The octets of a frame, 16 to 2,048. */
+    /** The length of a frame in octets, 16 to 2,048. */
     length: number;
     /** The virtual channel identifier, below 8. */
     vcid: number;
     /** The frame count of the next frame, on the master and on the virtual channel. */
     next_count: number;
-    /** The octets left of an idle packet, at most 6, which are sent first. */
+    /** The number of octets left of an idle packet, at most 6, which are sent first. */
     idle_left: number;
 }
 
 export interface sedge_tm_extractor {
     /** Where the part is in the memory. */
     from: number;
-    /** The octets of the part, and 0 if there is none. */
+    /** The number of octets of the part, and 0 if there is none. */
     count: number;
     /** The virtual channel frame count of the last frame, if one was seen. */
     last: number;
@@ -145,7 +145,7 @@ export interface sedge_tm_extractor {
 }
 
 export interface sedge_tm_extracted {
-    /** The octets of the packet at the beginning of the memory, and 0 if there is none. */
+    /** The length of the packet at the beginning of the memory, and 0 if there is none. */
     joined: number;
     /** Where `sedge_tm_packet` begins in the frame's data. */
     packets: sedge_part;
@@ -174,9 +174,9 @@ export interface sedge_taken {
 }
 
 export interface sedge_limits {
-    /** The most octets of data in a segment, at least 1. */
+    /** The maximum length of a segment's data in octets, at least 1. */
     part: number;
-    /** The most octets of a packet. */
+    /** The maximum length of a packet in octets. */
     max_packet: number;
     /** Whether packets that have at most part octets together go into one segment, 0 or 1. */
     blocking: number;
@@ -192,7 +192,7 @@ export interface sedge_log_record {
     boot: number;
     /** The number of the last command that was executed or passed over. Numbers begin at 1. */
     last: number;
-    /** The running check of all commands that were taken since the record was new or was brought. */
+    /** The running check of all commands that were taken since the record was new or was brought by an order. */
     history: number;
     /** Whether the next command is begun, 0 or 1. */
     begun: number;
@@ -245,23 +245,23 @@ export interface sedge_config {
     /** The timer's value in ticks, 1 to 65,535; default 10. */
     timer: number;
     /**
-     * The most octets of data in a segment, 1 to 1,016 (without silence before an initiation, segments of two longer
-     * packets can be joined into a command that nobody submitted); default 1,016.
+     * The maximum number of data octets in a segment. Without silence before an initiation, segments of two longer
+     * packets can be joined into a command that nobody submitted. Range 1 to 1,016; default 1,016.
      */
     part: number;
-    /** The most octets of a packet, 7 to 65,542; default 65,542. */
+    /** The maximum length of a packet in octets, 7 to 65,542; default 65,542. */
     max_packet: number;
-    /** Bit m, which counts 2 to the power of m, says that MAP m is open, any 64 bits; default all ones. */
+    /** The open MAPs, any 64 bits: bit m, of value 2 to the power of m, is 1 if MAP m is open; default all ones. */
     maps: bigint;
     /** The number of packets waiting to be taken at which the buffer on board is full, 1 to 64; default 64. */
     ready_slots: number;
-    /** The most packets of bypass frames that wait to be taken, 1 to 64; default 4. */
+    /** The maximum number of bypass packets that wait to be taken, 1 to 64; default 4. */
     bypass_slots: number;
-    /** The most units that wait to be sent for the first time, 1 to 65,535; default 1,000. */
+    /** The maximum number of units that wait to be sent for the first time, 1 to 65,535; default 1,000. */
     queue_slots: number;
-    /** The octets of a telemetry frame, 16 to 2,048; default 64. */
+    /** The length of a telemetry frame in octets, 16 to 2,048; default 64. */
     frame_length: number;
-    /** 1 where a segment may hold several packets, 0 to 1; default 0. */
+    /** 1 if a segment may contain several packets, 0 to 1; default 0. */
     blocking: number;
 }
 
@@ -270,19 +270,19 @@ export interface sedge_ground {
 }
 
 export interface sedge_heard {
-    /** FRAME: the number of packets that came to wait to be taken. */
+    /** FRAME: the number of packets added to those that wait to be taken. */
     packets: number;
     /** Of `sedge_heard_kind`. */
     kind: number;
-    /** INVALID: why they are no frame, of `sedge_tm_fault`. */
+    /** INVALID: why the octets do not form a valid frame, of `sedge_tm_fault`. */
     fault: number;
-    /** FRAME: whether no frame came before it, 0 or 1. */
+    /** FRAME: whether it is the first frame, 0 or 1. */
     first: number;
     /** FRAME: the number of frames that are missing before it. */
     missing: number;
-    /** FRAME, CLCW: what becomes of the report, of `sedge_heard_report`. */
+    /** FRAME, CLCW: what becomes of the CLCW, of `sedge_heard_report`. */
     report: number;
-    /** REFUSED: why it is none, of `sedge_clcw_fault`. */
+    /** REFUSED: why it is not a valid CLCW, of `sedge_clcw_fault`. */
     word_fault: number;
     /** USED: of `sedge_alert`, `SEDGE_NO_ALERT` for none. */
     alert: number;
@@ -290,27 +290,27 @@ export interface sedge_heard {
 
 export interface sedge_ground_reading {
     /**
-     * The number of submissions of the session; they count from 0. This and the two below: modulo 2^64, after an alert
-     * too, and 0 once V(S) is set.
+     * The number of submissions of the session; they count from 0. This number and the two below are modulo 2^64, also
+     * after an alert, and 0 once V(S) is set.
      */
     submitted: bigint;
-    /** How many first ones of them were sent whole, each to its last segment. */
+    /** How many of the session's submissions, from the first on, were sent whole, each to its last segment. */
     sent_whole: bigint;
-    /** How many first ones are acknowledged whole, so that they are on board. */
+    /** How many of the session's submissions, from the first on, are acknowledged whole, so that they are on board. */
     acknowledged_whole: bigint;
     /** The number of segments that were submitted and are not acknowledged. */
     outstanding: number;
-    /** How many of them wait to be sent for the first time. */
+    /** How many outstanding segments wait to be sent for the first time. */
     unsent: number;
-    /** How many of them are to be sent again. */
+    /** How many outstanding segments are to be retransmitted. */
     due: number;
     /** How many bypass packets wait to be sent. */
     bypassed: number;
     /** Of telemetry, in octets. */
     frame_length: number;
-    /** The ticks that are left of the timer, or 0 where it does not run. */
+    /** The ticks that are left while the timer runs, otherwise 0. */
     ticks: number;
-    /** Of the sender, of `sedge_fop_state` (232.1-B-2, 5.1). */
+    /** The sender's state, of `sedge_fop_state` (232.1-B-2, 5.1). */
     state: number;
     /** V(S), the number of the next segment that is sent for the first time. */
     vs: number;
@@ -327,13 +327,13 @@ export interface sedge_kept_ground {
     vs: number;
     /** NN(R), the number that the spacecraft was last known to expect. */
     nn: number;
-    /** 1 where these are a session's, and no alert has shown that a condition is broken; else 0. */
+    /** 1 if these numbers are a session's and no alert has shown a broken condition, otherwise 0. */
     known: number;
-    /** How many submissions more were sent whole, 0 to 127. */
+    /** The number of further submissions that were sent whole, 0 to 127. */
     whole: number;
-    /** How many segments of each of these are not acknowledged, the oldest first; and then zeros. */
+    /** For each of these, the oldest first, the number of its segments that are not acknowledged; then zeros. */
     segments: number[];
-    /** Zeros, which are not looked at. */
+    /** Zeros, which are not read. */
     zeros: number[];
 }
 
@@ -342,11 +342,11 @@ export interface sedge_spacecraft {
 }
 
 export interface sedge_received {
-    /** AD: the number of packets that came to wait to be taken. */
+    /** AD: the number of packets added to those that wait to be taken. */
     ready: number;
     /** Of `sedge_received_kind`. */
     kind: number;
-    /** INVALID: why they are no frame, of `sedge_tc_fault`. */
+    /** INVALID: why the octets do not form a valid frame, of `sedge_tc_fault`. */
     fault: number;
     /** AD: its number, N(S). */
     n: number;
@@ -367,15 +367,15 @@ export interface sedge_spacecraft_reading {
     frame_length: number;
     /** How many packets of sequence-controlled frames wait to be taken. */
     ready: number;
-    /** How many packets that came past the sequence control wait to be taken. */
+    /** How many bypass packets wait to be taken. */
     bypassed: number;
-    /** Of the report that the next frame carries, as in struct `sedge_clcw`. */
+    /** Of the CLCW that the next frame carries, as in struct `sedge_clcw`. */
     status: number;
     vcid: number;
     flags: number;
     farm_b: number;
     value: number;
-    /** Of the receiver, of `sedge_farm_mode`. */
+    /** The receiver's state, of `sedge_farm_mode`. */
     state: number;
     /** The next frame's count on the master channel. */
     mc_count: number;
@@ -388,9 +388,9 @@ export interface sedge_sim {
 }
 
 export interface sedge_reply {
-    /** The octets of the frame that was sent, or of the packet. */
+    /** The number of octets of the frame that was sent, or of the packet. */
     count: number;
-    /** How many submissions of the session that ended are on board whole. */
+    /** How many submissions of the ended session are on board whole. */
     whole: bigint;
     up: sedge_received;
     down: sedge_heard;
@@ -399,7 +399,7 @@ export interface sedge_reply {
     kind: number;
     /** Of `sedge_refused_by`. */
     by: number;
-    /** Of the enum that by names. */
+    /** Of the enumeration that `by` selects. */
     fault: number;
     /** Of `sedge_alert`. */
     alert: number;
@@ -414,28 +414,30 @@ export interface sedge_event {
     map: number;
     /** Of `sedge_directive`. */
     directive: number;
-    /** The directive's, as of `sedge_ground_directive`; or that of a report, by which the ground resumes, 0 to 255. */
+    /**
+     * The directive's, as for `sedge_ground_directive`; or that of the CLCW with which the ground resumes, 0 to 255.
+     */
     value: number;
-    /** Where they begin. */
+    /** Where the octets begin. */
     octets: Uint8Array;
 }
 
 export interface sedge_sim_reading {
     /** The number of segments that were submitted and are not acknowledged. */
     outstanding: number;
-    /** How many of the first ones of the frames sent the ground holds acknowledged. */
+    /** How many of the frames sent, from the first on, the ground holds as acknowledged. */
     acknowledged: number;
-    /** Of the ground's sender, of `sedge_fop_state`. */
+    /** The state of the ground's sender, of `sedge_fop_state`. */
     state: number;
     /** Of `sedge_begun`. */
     begun: number;
     /** The number of Set V(R). */
     vr: number;
-    /** It began with nothing on its way, and without a CLCW check only where V(R) was V(S). */
+    /** The session began with nothing in transit, and without a CLCW check only if V(R) was V(S). */
     clean: boolean;
-    /** It had an idle start (docs/PROMISES.md). */
+    /** The session had an idle start (docs/PROMISES.md). */
     idle: boolean;
-    /** A report has taken the ground from S4 or S5 to S1. */
+    /** A CLCW has taken the ground from S4 or S5 to S1. */
     confirmed: boolean;
 }
 
@@ -446,161 +448,165 @@ export interface Box { value: number }
 export interface Calls {
     /** The version of the library. */
     sedge_version(): string;
-    /** The check of the octets. */
+    /** Returns the check of the octets. */
     sedge_check(octets: Uint8Array): number;
     /**
-     * Sets the last two octets to the check of those before them, and returns true; for fewer than two octets it
-     * returns false and writes nothing.
+     * Sets the last two octets to the check of those before them, and returns true; for fewer than two octets, returns
+     * false and writes nothing.
      */
     sedge_check_append(octets: Uint8Array): boolean;
     /**
-     * Whether the last two octets are the check of those before them; false for fewer than two octets (232.0-B-4,
-     * 4.1.4.3).
+     * Returns whether the last two octets are the check of those before them; false for fewer than two octets
+     * (232.0-B-4, 4.1.4.3).
      */
     sedge_check_holds(octets: Uint8Array): boolean;
     /**
-     * Reads four octets as a control word, of whichever virtual channel: compare vcid with your own before you use its
-     * value or its flags (`sedge_fop_clcw` does so itself). Returns 0, or the first of 1 to 4 of `sedge_clcw_fault`, or
+     * Reads four octets as a CLCW of any virtual channel: compare its vcid with your own before you use its value or
+     * its flags (`sedge_fop_clcw` does so itself). Returns 0, or the first of 1 to 4 of `sedge_clcw_fault`, or
      * `SEDGE_WRONG_COUNT` if the octets are not four.
      */
     sedge_clcw_decode(octets: Uint8Array, word: Partial<sedge_clcw>): number;
     /**
-     * Writes a control word as four octets. Returns 0, or `SEDGE_CLCW_RANGE`, or `SEDGE_WRONG_COUNT` if the room is not
-     * four octets.
+     * Writes a CLCW as four octets. Returns 0, or `SEDGE_CLCW_RANGE`, or `SEDGE_WRONG_COUNT` if the buffer is not four
+     * octets long.
      */
     sedge_clcw_encode(word: Partial<sedge_clcw>, out: Uint8Array): number;
     /**
-     * Begins a receiver in its state Open, with all flags 0 and FARM-B 0, which expects the number `vr`. Returns 0, or
+     * Begins a receiver in state Open, with all flags 0 and FARM-B 0, that expects the number `vr`. Returns 0, or
      * `SEDGE_COP_WIDTH`.
      */
     sedge_farm_open(farm: Partial<sedge_farm>, width: number, vr: number): number;
     /**
-     * A Type-AD frame with the number `n` has arrived; `buffer_free` says whether there is room for its data. Returns
-     * its verdict, of `sedge_verdict`: if it is `SEDGE_ACCEPTED`, hand the data on. Or returns `SEDGE_DAMAGED`.
+     * Judges a Type-AD frame with the number `n`; `buffer_free` states whether there is room for its data. Returns its
+     * verdict, of `sedge_verdict`: if it is `SEDGE_ACCEPTED`, pass on the data. Or returns `SEDGE_DAMAGED`.
      */
     sedge_farm_ad(farm: Partial<sedge_farm>, n: number, buffer_free: boolean): number;
-    /** A Type-BD frame has arrived; hand its data on in every state. Returns 0, or `SEDGE_DAMAGED`. */
+    /** Counts a Type-BD frame; pass on its data in every state. Returns 0, or `SEDGE_DAMAGED`. */
     sedge_farm_bd(farm: Partial<sedge_farm>): number;
-    /** The control command Unlock has arrived. Returns 0, or `SEDGE_DAMAGED`. */
+    /** Executes the control command Unlock. Returns 0, or `SEDGE_DAMAGED`. */
     sedge_farm_unlock(farm: Partial<sedge_farm>): number;
     /**
-     * The control command Set V(R) has arrived; in Lockout it is counted, and V(R) stays. Returns 0, or
+     * Executes the control command Set V(R); in Lockout it is only counted, and V(R) does not change. Returns 0, or
      * `SEDGE_DAMAGED`.
      */
     sedge_farm_set_vr(farm: Partial<sedge_farm>, vr: number): number;
-    /** There is room on board again. Returns 0, or `SEDGE_DAMAGED`. */
+    /** Records that there is room on board again. Returns 0, or `SEDGE_DAMAGED`. */
     sedge_farm_released(farm: Partial<sedge_farm>): number;
     /**
-     * Makes the control word (232.0-B-4, 4.2) that reports on the receiver as it is, for the virtual channel `vcid`;
-     * the flags for the radio channel and bit lock are 0. Returns 0, or `SEDGE_DAMAGED`, or `SEDGE_CLCW_RANGE` if
-     * `vcid` is not below 64.
+     * Writes the CLCW (232.0-B-4, 4.2) that reports the receiver's present state, for the virtual channel `vcid`; the
+     * flags for the radio channel and bit lock are 0. Returns 0, or `SEDGE_DAMAGED`, or `SEDGE_CLCW_RANGE` if `vcid` is
+     * not below 64.
      */
     sedge_farm_control_word(farm: Partial<sedge_farm>, vcid: number, word: Partial<sedge_clcw>): number;
     /** Returns the state, of `sedge_farm_mode`, or `SEDGE_DAMAGED`. */
     sedge_farm_state(farm: Partial<sedge_farm>): number;
     /**
-     * Begins a sender in its state S6 with V(S) and NN(R) 0, to a receiver of this window width, with the window K, the
+     * Begins a sender in state S6 with V(S) and NN(R) 0, for a receiver of this window width, with the window K, the
      * transmission limit and the timer's value in ticks. Returns 0, or the first of `SEDGE_COP_WIDTH` (not even, 2 to
      * 254), `SEDGE_COP_WINDOW` (not 1 to half the width), `SEDGE_COP_LIMIT` (0) and `SEDGE_COP_TIMER` (0).
      */
     sedge_fop_open(fop: Partial<sedge_fop>, width: number, window: number, limit: number, timer: number): number;
     /**
-     * Gives the sender a directive, of `sedge_directive`, with its value; one that has none ignores it. Returns 0; or
-     * `SEDGE_COP_WRONG_STATE`; or for a value out of its range `SEDGE_COP_WINDOW`, `SEDGE_COP_LIMIT` or
-     * `SEDGE_COP_TIMER`; or `SEDGE_DAMAGED`, also for a directive that is none, and for a number V(R) or V(S) above
+     * Gives the sender a directive, of `sedge_directive`, with its value; a directive without a value ignores it.
+     * Returns 0; or `SEDGE_COP_WRONG_STATE`; or for a value out of range `SEDGE_COP_WINDOW`, `SEDGE_COP_LIMIT` or
+     * `SEDGE_COP_TIMER`; or `SEDGE_DAMAGED`, also for a number that is not a directive, and for a V(R) or V(S) above
      * 255.
      */
     sedge_fop_directive(fop: Partial<sedge_fop>, directive: number, value: number): number;
     /**
-     * Submits a unit, to be sent under sequence control: it waits, and the caller keeps it. Returns 0, or
+     * Submits a unit to be sent under sequence control. The unit waits, and the caller keeps it. Returns 0, or
      * `SEDGE_DAMAGED`, or `SEDGE_COP_NOT_OPEN` in S6, or `SEDGE_COP_BUSY` while another one waits.
      */
     sedge_fop_submit(fop: Partial<sedge_fop>): number;
     /**
-     * Takes what goes on the link next. Returns one of `sedge_next`, and writes its number, or 0 if it has none; or
-     * returns `SEDGE_DAMAGED`, with nothing written.
+     * Takes what is to be sent on the link next. Returns one of `sedge_next`, and writes its number, or 0 if it has
+     * none; or returns `SEDGE_DAMAGED`, with nothing written.
      */
     sedge_fop_next(fop: Partial<sedge_fop>, number: Partial<Box>): number;
     /**
-     * A control word has arrived, and the sender is that of the virtual channel `vcid`. The call compares this with the
-     * `vcid` of the word; the caller has compared the scid of the telemetry frame that carried it. Returns the alert,
-     * of `sedge_alert`, and writes the number of units that are acknowledged, the oldest of those sent; or with nothing
-     * written and nothing changed it returns the first of `SEDGE_ABSENT`, if the word reports on another channel, and
+     * Takes a CLCW for the sender of the virtual channel `vcid`. The call compares this number with the CLCW's `vcid`;
+     * the caller has already compared the scid of the telemetry frame that carried the CLCW. Returns the alert, of
+     * `sedge_alert`, and writes the number of units that are acknowledged, the oldest of those sent; or with nothing
+     * written and nothing changed it returns the first of `SEDGE_ABSENT`, if the CLCW reports on another channel, and
      * `SEDGE_DAMAGED`.
      */
     sedge_fop_clcw(fop: Partial<sedge_fop>, vcid: number, word: Partial<sedge_clcw>, released: Partial<Box>): number;
-    /** A tick of the clock has passed. Returns the alert, of `sedge_alert`, or `SEDGE_DAMAGED`. */
+    /** Counts a tick of the clock. Returns the alert, of `sedge_alert`, or `SEDGE_DAMAGED`. */
     sedge_fop_tick(fop: Partial<sedge_fop>): number;
     /**
-     * Writes how many of the units that were sent and not acknowledged were accepted on board when a report of this
-     * value was made: the oldest ones, those with the numbers from NN(R) to value - 1 (5.1). It does so after an alert
-     * too, until V(S) is set or an initiation begins, and goes by the numbers alone: after an alert that shows a broken
-     * condition nothing of them is known, whatever it writes. If V(S) is NN(R) there are no such units, and it writes 0
-     * whatever the value. Returns 0, or `SEDGE_DAMAGED`, or `SEDGE_ABSENT` if there are such units and the value does
-     * not lie from NN(R) to V(S), so that nothing is known of them; nothing is written then.
+     * Writes how many of the units that were sent and not acknowledged were accepted on board when a CLCW of this value
+     * was made. They are the oldest ones, with the numbers from NN(R) to value - 1 (5.1). The call does so after an
+     * alert too, until V(S) is set or an initiation begins. It uses only the numbers: after an alert that shows a
+     * broken condition nothing is known of these units, whatever the call writes. If V(S) is NN(R), there are no such
+     * units, and the call writes 0 for every value. Returns 0, or `SEDGE_DAMAGED`, or `SEDGE_ABSENT` if there are such
+     * units and the value does not lie from NN(R) to V(S), so that nothing is known of them; nothing is written then.
      */
     sedge_fop_accepted_beyond(fop: Partial<sedge_fop>, value: number, accepted: Partial<Box>): number;
-    /** The same of a sender with these numbers for NN(R) and V(S). Returns 0, or `SEDGE_ABSENT` if nothing is known. */
+    /**
+     * Writes the same number for a sender with this NN(R) and V(S). Returns 0, or `SEDGE_ABSENT` if nothing is known.
+     */
     sedge_accepted_beyond(nn: number, vs: number, value: number, accepted: Partial<Box>): number;
     /**
      * Reads all of the octets as one frame, which ends with its FECF if `checked` is true, and writes where the data
-     * after the segment header are; a control frame has none, and the part is `{0, 0}`. The frame may be of any
-     * spacecraft and virtual channel: compare scid and vcid with your own before a receiver is given it. Returns 0, or
-     * the first of 1 to 9 of `sedge_tc_fault`.
+     * after the segment header are; for a control frame, which has none, the part is `{0, 0}`. The frame may be of any
+     * spacecraft and virtual channel: compare scid and vcid with your own before you pass the frame to a receiver.
+     * Returns 0, or the first of 1 to 9 of `sedge_tc_fault`.
      */
     sedge_tc_decode(octets: Uint8Array, checked: boolean, frame: Partial<sedge_tc_frame>, data: Partial<sedge_part>): number;
     /**
      * Writes the frame with these data (ignored for a control frame) to the beginning of `out`, with its FECF if
      * `checked` is true, and its length in octets, 6 to 1,024, to `total`. Returns 0, or the first of `SEDGE_DAMAGED`
-     * (the kind, the segment flags or the command is out of its enum), `SEDGE_TC_FIELD_RANGE` and `SEDGE_TC_ROOM`.
+     * (the kind, the segment flags or the command is not in its enumeration), `SEDGE_TC_FIELD_RANGE` and
+     * `SEDGE_TC_ROOM`.
      */
     sedge_tc_encode(frame: Partial<sedge_tc_frame>, data: Uint8Array, checked: boolean, out: Uint8Array, total: Partial<Box>): number;
     /**
-     * Writes the length of the frame that begins with these octets, by its first 5 octets alone; for cutting a stream
-     * (4.1.2.7). Returns 0, or `SEDGE_TC_SHORT` for fewer than 5 octets, or `SEDGE_TC_LENGTH` if it declares fewer than
-     * 5, or with the FECF fewer than 7.
+     * Writes the length of the frame that begins with these octets, from its first 5 octets only; use it to cut a
+     * stream (4.1.2.7). Returns 0, or `SEDGE_TC_SHORT` for fewer than 5 octets, or `SEDGE_TC_LENGTH` if it declares
+     * fewer than 5, or with the FECF fewer than 7.
      */
     sedge_tc_declared(octets: Uint8Array, checked: boolean, total: Partial<Box>): number;
     /**
-     * Reads the frames that stand one after another in the octets, each as long as it declares (4.1.2.7), and writes a
-     * record of 12 octets of each to `out`, in order: the number of its octets, what `sedge_tc_decode` returns for it,
-     * and the scid, vcid, kind, n, flags, map, command and vr that it writes, or 0 for each where it refuses the frame.
-     * The number and the scid have two octets, the lower one first. The data of a Type-AD or a Type-BD frame begin 6
-     * octets after its first. Stops where `out` has no room for a record, or where no whole frame follows:
-     * `sedge_tc_declared` says of the octets there whether their length is refused. Writes the number of octets of all
-     * these frames to `total`. Returns the number of frames.
+     * Reads the frames that follow one another in the octets, each as long as it declares (4.1.2.7), and writes a
+     * record of 12 octets for each to `out`, in order. A record contains the number of the frame's octets, what
+     * `sedge_tc_decode` returns for it, and the scid, vcid, kind, n, flags, map, command and vr that this call writes,
+     * or 0 for each if it refuses the frame. The number and the scid have two octets, the lower one first. The data of
+     * a Type-AD or a Type-BD frame begin 6 octets after its first. Stops when `out` has no room for a record, or when
+     * no whole frame follows. Call `sedge_tc_declared` with the octets there to find out whether their length is
+     * refused. Writes the number of octets of all these frames to `total`. Returns the number of frames.
      */
     sedge_tc_frames(octets: Uint8Array, checked: boolean, out: Uint8Array, total: Partial<Box>): number;
     /**
-     * Reads the packet at the beginning of the octets, and writes where its data field is; the packet ends where that
-     * ends, and octets after it are ignored. Returns 0, or the first of 1 to 3 of `sedge_packet_fault`
+     * Reads the packet at the beginning of the octets, and writes where its data field is. The packet ends where its
+     * data field ends, and octets after it are ignored. Returns 0, or the first of 1 to 3 of `sedge_packet_fault`
      * (`SEDGE_PACKET_TRUNCATED` for fewer octets than declared comes last).
      */
     sedge_packet_decode(octets: Uint8Array, packet: Partial<sedge_packet>, data: Partial<sedge_part>): number;
     /**
      * Writes the packet with this data field to the beginning of `out`, and its length in octets, 6 more than its data,
-     * to `total`. Returns 0, or the first of `SEDGE_DAMAGED` (the kind is out of its enum, or the secondary header flag
-     * above 1), `SEDGE_PACKET_FIELD_RANGE` and `SEDGE_PACKET_ROOM`.
+     * to `total`. Returns 0, or the first of `SEDGE_DAMAGED` (the kind is not in its enumeration, or the secondary
+     * header flag is above 1), `SEDGE_PACKET_FIELD_RANGE` and `SEDGE_PACKET_ROOM`.
      */
     sedge_packet_encode(packet: Partial<sedge_packet>, data: Uint8Array, out: Uint8Array, total: Partial<Box>): number;
     /**
-     * Writes the length of the packet that begins with these octets, by its first 6 octets alone; for cutting a stream
-     * (4.1.3.5). Returns 0, or `SEDGE_PACKET_TRUNCATED` for fewer than 6 octets, or `SEDGE_PACKET_VERSION`, or
+     * Writes the length of the packet that begins with these octets, from its first 6 octets only; use it to cut a
+     * stream (4.1.3.5). Returns 0, or `SEDGE_PACKET_TRUNCATED` for fewer than 6 octets, or `SEDGE_PACKET_VERSION`, or
      * `SEDGE_PACKET_IDLE_WITH_SECONDARY`.
      */
     sedge_packet_declared(octets: Uint8Array, total: Partial<Box>): number;
-    /** Begins a check of sequence counts, which has seen no packet. */
+    /** Begins a check of sequence counts that has seen no packet. */
     sedge_gap_check_open(check: Partial<sedge_gap_check>): void;
     /**
-     * Sees a packet of this APID with this count, as `sedge_packet_decode` gives them, and writes how many are missing
-     * before it to `missing`: (count - last - 1) modulo 16,384. Returns 0, or `SEDGE_ABSENT` for the first packet of
-     * the APID, which is seen; or `SEDGE_PACKET_FIELD_RANGE` if `apid` is not below 2,048 or `count` not below 16,384.
+     * Records a packet of this APID with this count, as `sedge_packet_decode` writes them, and writes the number of
+     * packets missing before it to `missing`: (count - last - 1) modulo 16,384. Returns 0, or `SEDGE_ABSENT` for the
+     * first packet of the APID, which is recorded too; or `SEDGE_PACKET_FIELD_RANGE` if `apid` is not below 2,048 or
+     * `count` not below 16,384.
      */
     sedge_gap_check_see(check: Partial<sedge_gap_check>, apid: number, count: number, missing: Partial<Box>): number;
     /**
      * Reads all of the octets as one frame of this length, and writes where its data are. The frame may be of any
-     * spacecraft and virtual channel: compare scid and vcid with your own before an extractor is given it, and scid
-     * before its control word is used. Returns 0, or the first of 1 to 6 of `sedge_tm_fault`.
+     * spacecraft and virtual channel: compare scid and vcid with your own before you pass the frame to an extractor,
+     * and scid before you use its CLCW. Returns 0, or the first of 1 to 6 of `sedge_tm_fault`.
      */
     sedge_tm_decode(octets: Uint8Array, length: number, frame: Partial<sedge_tm_frame>, data: Partial<sedge_part>): number;
     /**
@@ -609,116 +615,118 @@ export interface Calls {
      */
     sedge_tm_encode(frame: Partial<sedge_tm_frame>, data: Uint8Array, out: Uint8Array, total: Partial<Box>): number;
     /**
-     * Begins a builder whose frame counts begin at 0, with nothing to be sent. Returns 0, or `SEDGE_TM_FIELD_RANGE` if
-     * `scid` is not below 1,024, `vcid` not below 8, or length not from 16 to 2,048.
+     * Begins a builder with frame counts of 0 and nothing to be sent. Returns 0, or `SEDGE_TM_FIELD_RANGE` if `scid` is
+     * not below 1,024, `vcid` not below 8, or length not from 16 to 2,048.
      */
     sedge_tm_builder_open(builder: Partial<sedge_tm_builder>, scid: number, vcid: number, length: number): number;
     /**
-     * Queues a packet, all of its octets, after those that are to be sent, at which it does not look. Returns 0, or the
-     * first of `SEDGE_DAMAGED` (the numbers of the struct are no builder's, or its octets are not in the memory),
+     * Queues a packet, all of its octets, after those that are to be sent, which it does not read. Returns 0, or the
+     * first of `SEDGE_DAMAGED` (no builder has the numbers of the struct, or its octets are not in the memory),
      * `SEDGE_TM_NOT_A_PACKET` (not exactly one packet, or an idle one) and `SEDGE_TM_MEMORY` (the octets to be sent and
-     * the packet are more than the memory has).
+     * the packet do not fit in the memory).
      */
     sedge_tm_builder_queue(builder: Partial<sedge_tm_builder>, packet: Uint8Array, memory: Uint8Array): number;
     /**
      * Writes the next frame to the beginning of `out`, with this operational control field, of four octets as
-     * `sedge_clcw_encode` writes them, and its length, that of all the builder's frames, to `total`. Where packets run
-     * out within the frame, an idle packet fills it; where nothing is to be sent, the frame has only idle data. Returns
-     * 0, or the first of `SEDGE_DAMAGED` (as for `sedge_tm_builder_queue`, or the octets that this frame takes are not
-     * of whole packets), `SEDGE_WRONG_COUNT` (the field is not four octets) and `SEDGE_TM_ROOM`.
+     * `sedge_clcw_encode` writes them, and its length, that of all the builder's frames, to `total`. If packets run out
+     * within the frame, an idle packet fills it; if nothing is to be sent, the frame has only idle data. Returns 0, or
+     * the first of `SEDGE_DAMAGED` (as for `sedge_tm_builder_queue`, or the octets that this frame takes are not whole
+     * packets), `SEDGE_WRONG_COUNT` (the field is not four octets) and `SEDGE_TM_ROOM`.
      */
     sedge_tm_builder_build(builder: Partial<sedge_tm_builder>, ocf: Uint8Array, memory: Uint8Array, out: Uint8Array, total: Partial<Box>): number;
     /**
-     * Takes the next frame of the spacecraft and the virtual channel that came, its fields and its data as
-     * `sedge_tm_decode` gives them. Hand its packets on before the next call:      if (extracted.joined > 0)
-     * hand_on(memory, extracted.joined);     struct sedge_part packet = extracted.packets;     while
-     * (sedge_tm_packet(data, data_count, &packet)) hand_on(data + packet.from, packet.count);  Where frames are
+     * Takes the next frame of the spacecraft and the virtual channel that arrived: its fields and its data, as
+     * `sedge_tm_decode` writes them. Use its packets before the next call:      if (extracted.joined > 0)
+     * use_packet(memory, extracted.joined);     struct sedge_part packet = extracted.packets;     while
+     * (sedge_tm_packet(data, data_count, &packet)) use_packet(data + packet.from, packet.count);  If frames are
      * missing, the part before them is dropped. Returns 0, or the first of `SEDGE_DAMAGED`, `SEDGE_TM_FIELD_RANGE` (the
-     * pointer is after the data) and `SEDGE_TM_MEMORY` (the packet that the frame ends and the part that it leaves are
-     * more than the memory has). The frame after a refused one shows that one as missing.
+     * pointer is after the data) and `SEDGE_TM_MEMORY` (the packet that the frame ends and the part that it leaves do
+     * not fit in the memory). A refused frame counts as missing when the next one arrives.
      */
     sedge_tm_extractor_frame(extractor: Partial<sedge_tm_extractor>, frame: Partial<sedge_tm_frame>, data: Uint8Array, memory: Uint8Array, extracted: Partial<sedge_tm_extracted>): number;
     /**
-     * Goes on to the packet after this part of a frame's data that is not idle. Returns true, and the part is that
-     * packet; or false, with nothing written, if there is none.
+     * Finds the next packet that is not idle after this part of a frame's data. Returns true and writes where that
+     * packet is; or returns false and writes nothing if there is none.
      */
     sedge_tm_packet(data: Uint8Array, packet: Partial<sedge_part>): boolean;
     /**
-     * Takes the frames of this length that stand one after another in the octets, each as `sedge_tm_decode` and then
-     * `sedge_tm_extractor_frame` take it, and writes a record of 19 octets of each to `out`, in order: the number of
-     * octets of its packets, of four octets, the lowest one first; the first fault of these two calls, or 0; then first
-     * and lost, and dropped, which is 1 if a packet that was begun is dropped and is not idle, or 0; then the scid and
-     * the pointer, of two octets, the lower one first, the vcid, mc_count, vc_count and ocf, or 0 for each where it is
-     * no frame. The packets of all these frames go to `packets` one after another: `sedge_map_packet` finds where each
-     * begins. Stops where `out` has no room for a record, or `packets` for as many octets as the memory and a frame
-     * have, or where no whole frame follows; a length of 0 is that of no frame. Writes the number of octets of all
-     * these packets to `total`. Returns the number of frames.
+     * Takes the frames of this length that follow one another in the octets, each as `sedge_tm_decode` and then
+     * `sedge_tm_extractor_frame` take it. Writes a record of 19 octets for each frame to `out`, in order. A record
+     * contains the number of octets of the frame's packets (four octets, the lowest one first), and the first fault of
+     * these two calls, or 0. Then come first, lost and dropped; dropped is 1 if a begun packet that is not idle is
+     * dropped, and otherwise 0. The record ends with the frame's fields: the scid and the pointer (two octets each, the
+     * lower one first), the vcid, mc_count, vc_count and ocf. These fields are 0 if the octets do not form a valid
+     * frame. Writes the packets of all these frames to `packets`, one after another: `sedge_map_packet` finds where
+     * each begins. Stops when `out` has no room for a record, or when `packets` has no room for as many octets as the
+     * memory and a frame have together. It also stops when no whole frame follows, and takes no frame if the length is
+     * 0. Writes the number of octets of all these packets to `total`. Returns the number of frames.
      */
     sedge_tm_extractor_frames(extractor: Partial<sedge_tm_extractor>, octets: Uint8Array, frame_length: number, memory: Uint8Array, out: Uint8Array, packets: Uint8Array, total: Partial<Box>): number;
     /**
-     * Takes the next segment of the MAP, its flags of `sedge_segment_flags` and its data. Hand the packets that are
-     * whole now on before the next call. Returns 0, or `SEDGE_DAMAGED`, also for flags above 3.
+     * Takes the next segment of the MAP: its flags, of `sedge_segment_flags`, and its data. Pass on the packets that
+     * are whole now before the next call. Returns 0, or `SEDGE_DAMAGED`, also for flags above 3.
      */
     sedge_map_take(map: Partial<sedge_map>, flags: number, data: Uint8Array, memory: Uint8Array, taken: Partial<sedge_taken>): number;
     /**
-     * Goes on to the packet after this part of the octets; begin with `{0, 0}`. Returns true, and the part is that
-     * packet; or false, with nothing written, if there is none.
+     * Moves to the packet after this part of the octets; begin with `{0, 0}`. Returns true, and the part is that
+     * packet; or returns false and writes nothing if there is none.
      */
     sedge_map_packet(octets: Uint8Array, packet: Partial<sedge_part>): boolean;
     /**
-     * Writes the number of segments that a packet is cut into, or with blocking one or more packets, one after another.
-     * Returns 0, or `SEDGE_DAMAGED`, or the first of `sedge_map_fault`.
+     * Writes the number of segments into which a packet is cut, or with blocking one or more packets, one after
+     * another. Returns 0, or `SEDGE_DAMAGED`, or the first of `sedge_map_fault`.
      */
     sedge_map_count(octets: Uint8Array, limits: Partial<sedge_limits>, segments: Partial<Box>): number;
     /**
-     * Writes segment `k` of these, counted from 0: its flags of `sedge_segment_flags`, and where its data are in the
-     * octets. Each call goes through the packets from the first, so with blocking all segments of n packets take time
-     * in proportion to n * n. Returns what `sedge_map_count` does, or `SEDGE_ABSENT` if there are not that many.
+     * Writes segment `k` of these, counted from 0: its flags, of `sedge_segment_flags`, and where its data are in the
+     * octets. Each call starts from the first packet, so with blocking the time for all segments of n packets grows as
+     * n * n. Returns what `sedge_map_count` does, or `SEDGE_ABSENT` if there are fewer segments.
      */
     sedge_map_segment(octets: Uint8Array, limits: Partial<sedge_limits>, k: number, flags: Partial<Box>, data: Partial<sedge_part>): number;
     /**
-     * Starts with the octets at the two places of the memory that survives restarts, 50 each. A place whose octets are
-     * not 50, or do not spell a record, has none. Give another mark at each start, from a clock or at random: if
-     * neither place has a record, it is the mark of this loss.
+     * Starts with the octets at the two places of the memory that survives restarts, 50 each. A place with another
+     * number of octets, or with octets that do not form a valid record, has no record. Pass another mark at each start,
+     * from a clock or at random: if neither place has a record, it is the mark of this loss.
      */
     sedge_log_start(log: Partial<sedge_log>, first: Uint8Array, second: Uint8Array, mark: number): void;
     /**
-     * Returns what the program does next, of `sedge_log_action`: it does this whole, and calls `sedge_log_done`, before
-     * it calls this again. For a write, `out` gets the 50 octets of the place; otherwise it stays as it is. `number`
-     * gets the number of the command to be executed, or 0 for any other action. Or returns the first of
-     * `SEDGE_WRONG_COUNT`, if the room is not 50 octets, and `SEDGE_DAMAGED`, with nothing written.
+     * Returns the program's next action, of `sedge_log_action`. The program completes the action and calls
+     * `sedge_log_done` before it calls this again. For a write, `out` receives the 50 octets of the place; otherwise it
+     * does not change. `number` receives the number of the command to be executed, or 0 for any other action. Or
+     * returns the first of `SEDGE_WRONG_COUNT`, if the buffer is not 50 octets long, and `SEDGE_DAMAGED`, with nothing
+     * written.
      */
     sedge_log_next(log: Partial<sedge_log>, out: Uint8Array, number: Partial<Box>): number;
     /**
-     * The action that `sedge_log_next` returned, with its number, was done whole. Returns 0; or it changes nothing and
-     * returns the first of `SEDGE_DAMAGED` and `SEDGE_ABSENT`, if the action or its number is not what `sedge_log_next`
-     * returns.
+     * Records that the action that `sedge_log_next` returned, with its number, is complete. Returns 0; or it changes
+     * nothing and returns the first of `SEDGE_DAMAGED` and `SEDGE_ABSENT`, if the action or its number is not what
+     * `sedge_log_next` returns.
      */
     sedge_log_done(log: Partial<sedge_log>, action: number, number: number): number;
     /**
      * Takes the octets of a packet that arrived if it is the next command, and writes where the mission's octets are in
-     * them: keep these until the command was executed, after `sedge_log_next` has returned `SEDGE_LOG_EXECUTE` with its
+     * them. Keep these until the command was executed, after `sedge_log_next` has returned `SEDGE_LOG_EXECUTE` with its
      * number. Returns 0; or it changes and writes nothing, the packet is dropped, and it returns `SEDGE_DAMAGED` or the
      * first of 1 to 7 of `sedge_log_fault`: 1 Layout, then 2 Check, then 3 Starting, 4 Busy or 5 Lost, then 6 Behind or
      * 7 Ahead.
      */
     sedge_log_offer(log: Partial<sedge_log>, octets: Uint8Array, content: Partial<sedge_part>): number;
     /**
-     * Takes the octets of an order that arrived: the next action is then `SEDGE_LOG_RESTART`; or the board that has
-     * lost its record continues with the one that the order brings, if the order has the mark of this loss. Returns 0;
-     * or it changes nothing, the packet is dropped, and it returns `SEDGE_DAMAGED`, or the first of 1 to 5 of
+     * Takes the octets of an order that arrived: the next action is then `SEDGE_LOG_RESTART`; or a board that has lost
+     * its record continues with the record that the order brings, if the order has the mark of this loss. Returns 0; or
+     * it changes nothing, the packet is dropped, and it returns `SEDGE_DAMAGED`, or the first of 1 to 5 of
      * `sedge_log_fault`, or 8 to 10 of `sedge_log_fault`: 1 Layout, then 2 Check; of a restart 3 Starting, 4 Busy or 5
      * Lost, then 8 OtherBoot; of a record 9 NotLost, then 10 OtherMark.
      */
     sedge_log_obey(log: Partial<sedge_log>, octets: Uint8Array): number;
     /**
-     * Writes the status for telemetry, 27 octets, with how many commands wait on board to be offered, at most 255.
-     * Returns 0, or the first of `SEDGE_WRONG_COUNT`, if the room is not 27 octets, and `SEDGE_DAMAGED`.
+     * Writes the status for telemetry, 27 octets, with the number of commands that wait on board to be offered, at most
+     * 255. Returns 0, or the first of `SEDGE_WRONG_COUNT`, if the buffer is not 27 octets long, and `SEDGE_DAMAGED`.
      */
     sedge_log_status(log: Partial<sedge_log>, waiting: number, out: Uint8Array): number;
     /**
      * Writes the record of a new board, the 50 octets that both places have before the board starts for the first time.
-     * Returns 0, or `SEDGE_WRONG_COUNT` if the room is not 50 octets.
+     * Returns 0, or `SEDGE_WRONG_COUNT` if the buffer is not 50 octets long.
      */
     sedge_log_new_record(out: Uint8Array): number;
     /**
@@ -735,13 +743,13 @@ export interface Calls {
     sedge_log_command_encode(apid: number, count: number, number: number, content: Uint8Array, out: Uint8Array, total: Partial<Box>): number;
     /**
      * Writes an order as a packet with this APID and sequence count to the beginning of `out`, and its length, 23
-     * octets, to `total`. Returns 0, or the first of `SEDGE_DAMAGED` (the kind is out of its enum, or a restart has a
-     * last number or a mark), `SEDGE_LOG_FIELD_RANGE` (the APID is above 2,047 or the count above 16,383) and
+     * octets, to `total`. Returns 0, or the first of `SEDGE_DAMAGED` (the kind is not in its enumeration, or a restart
+     * has a last number or a mark), `SEDGE_LOG_FIELD_RANGE` (the APID is above 2,047 or the count above 16,383) and
      * `SEDGE_LOG_ROOM`.
      */
     sedge_log_order_encode(order: Partial<sedge_log_order>, apid: number, count: number, out: Uint8Array, total: Partial<Box>): number;
     /**
-     * Returns the history after one command packet more: CRC-32 continued over the packet's check, its last four
+     * Returns the history after one more command packet: CRC-32 continued over the packet's check, its last four
      * octets. The history of no packets is 0. A ground that computes it for the packets that it sends compares it with
      * a status.
      */
@@ -767,23 +775,23 @@ export interface Calls {
     /** The name of a `sedge_log_fault`. */
     sedge_log_fault_name(fault: number): string;
     /**
-     * Whether a `sedge_alert` says that a condition of the link is broken: true for `SEDGE_ALERT_LOCKOUT`,
+     * Returns whether a `sedge_alert` shows a broken condition of the link: true for `SEDGE_ALERT_LOCKOUT`,
      * `SEDGE_ALERT_NNR`, `SEDGE_ALERT_CLCW` and `SEDGE_ALERT_SYNCH`. In a confirmed session that was begun by check,
-     * Unlock or Set V(R) none of these comes while the conditions hold: there was a restart on board, a link that
-     * reorders or repeats frames, or a second station. Nothing is known of what is on board then: begin anew, as after
-     * a reset. False for the others, after which the next session begins where this one got to, and for a number that
-     * is no alert.
+     * Unlock or Set V(R), none of these alerts occurs while the conditions hold: there was a restart on board, a link
+     * that reorders or repeats frames, or a second station. Nothing is then known of what is on board: begin again, as
+     * after a reset. Returns false for the other alerts, after which the next session begins where this one got to, and
+     * for a number that is not an alert.
      */
     sedge_alert_shows_broken_condition(alert: number): boolean;
     /**
-     * What to look for after a `sedge_alert`, and the way on, in words for an operator; "?" for a number that is none.
+     * What to look for after a `sedge_alert`, and how to recover, in words for an operator; "?" for any other number.
      */
     sedge_alert_advice(alert: number): string;
-    /** Writes the default of each parameter. A program begins with these, and sets what its mission has otherwise. */
+    /** Writes the default of each parameter. A program begins with these, and sets those that differ in its mission. */
     sedge_config_default(config: Partial<sedge_config>): void;
     /**
-     * Returns the first parameter that is out of its range, of `sedge_parameter`; `SEDGE_NO_PARAMETER` for none. A
-     * `width` is also out of its range where it is odd, and a `window` where it is more than half of that.
+     * Returns the first parameter that is out of range, of `sedge_parameter`; `SEDGE_NO_PARAMETER` for none. A `width`
+     * is also out of range if it is odd, and a `window` if it is more than half the width.
      */
     sedge_config_fault(config: Partial<sedge_config>): number;
     /** The name of a `sedge_parameter`, which is that of its field in `sedge_config`. */
@@ -791,167 +799,167 @@ export interface Calls {
     /** The name of a `sedge_node_status`, 1 to 6 and 10; "?" for another number. */
     sedge_link_fault_name(number: number): string;
     /**
-     * Opens a ground, in place of one that the handle holds. This one is let go of once the new one is made: a refusal
-     * leaves it, and until then both have memory. Where there is memory for one alone, close the handle first. Returns
-     * 0, `SEDGE_NODE_OUT_OF_RANGE` or `SEDGE_NODE_MEMORY`.
+     * Opens a ground instead of one that the handle holds. The old ground is released once the new one is built: a
+     * refusal leaves it, and until then both have memory. If there is memory only for one, close the handle first.
+     * Returns 0, `SEDGE_NODE_OUT_OF_RANGE` or `SEDGE_NODE_MEMORY`.
      */
     sedge_ground_open(ground: Partial<sedge_ground>, config: Partial<sedge_config>): number;
-    /** Closes the ground, where there is one; the handle holds none then. */
+    /** Closes the ground, if there is one; the handle then holds none. */
     sedge_ground_close(ground: Partial<sedge_ground>): void;
     /**
-     * Gives the ground's sender a directive, of `sedge_directive` (sedgechisel.h), with its value; one that has none
-     * ignores it. Returns 0; or `SEDGE_COP_WRONG_STATE`; or for a value out of its range `SEDGE_COP_WINDOW`,
-     * `SEDGE_COP_LIMIT` or `SEDGE_COP_TIMER`; or `SEDGE_NODE_NONE`, also for a directive that is none, and for a number
-     * V(R) or V(S) above 255.
+     * Gives the ground's sender a directive, of `sedge_directive` (sedgechisel.h), with its value; a directive without
+     * a value ignores it. Returns 0; or `SEDGE_COP_WRONG_STATE`; or for a value out of range `SEDGE_COP_WINDOW`,
+     * `SEDGE_COP_LIMIT` or `SEDGE_COP_TIMER`; or `SEDGE_NODE_NONE`, also for a number that is not a directive, and for
+     * a V(R) or V(S) above 255.
      */
     sedge_ground_directive(ground: Partial<sedge_ground>, directive: number, value: number): number;
     /**
-     * Submits packets on a MAP, to be sent under sequence control: one, or several where blocking is on. Returns 0, or
-     * the first of 1 to 5 of `sedge_node_status` that applies, or `SEDGE_NODE_MEMORY`. `sedge_map_count` says in how
-     * many segments they go. That `sedge_ground_resume` counts a submission right is promised of one packet, and of
-     * packets that go in one segment together.
+     * Submits one packet on a MAP under sequence control, or several if blocking is on. Returns 0, or the first of 1 to
+     * 5 of `sedge_node_status` that applies, or `SEDGE_NODE_MEMORY`. `sedge_map_count` writes the number of their
+     * segments. The promise that `sedge_ground_resume` counts a submission correctly covers one packet, and packets
+     * that share one segment.
      */
     sedge_ground_submit(ground: Partial<sedge_ground>, map: number, octets: Uint8Array): number;
     /**
-     * Submits one packet on a MAP past the sequence control. Returns 0, or the first of 2 to 5 of `sedge_node_status`
-     * that applies, or `SEDGE_NODE_MEMORY`.
+     * Submits one packet on a MAP by bypass (Type-BD). Returns 0, or the first of 2 to 5 of `sedge_node_status` that
+     * applies, or `SEDGE_NODE_MEMORY`.
      */
     sedge_ground_bypass(ground: Partial<sedge_ground>, map: number, octets: Uint8Array): number;
     /**
-     * Writes how many octets the frame that goes on the link next has, 8 to 1,024; 0 where nothing is to be sent.
-     * Returns 0.
+     * Writes the length in octets of the next frame for the link, 8 to 1,024, or 0 if nothing is to be sent. Returns 0.
      */
     sedge_ground_next(ground: Partial<sedge_ground>, count: Partial<Box>): number;
     /**
-     * Takes the frame that goes on the link next, with its FECF (232.0-B-4, 4.1): writes it, and the number of its
-     * octets; or 0 octets where nothing is to be sent. Returns 0 or `SEDGE_NODE_ROOM`.
+     * Takes the next frame for the link, with its FECF (232.0-B-4, 4.1). Writes it and the number of its octets, or 0
+     * octets if nothing is to be sent. Returns 0 or `SEDGE_NODE_ROOM`.
      */
     sedge_ground_pull(ground: Partial<sedge_ground>, out: Uint8Array, count: Partial<Box>): number;
     /**
-     * Writes the frame that goes on the link next as `sedge_ground_pull` does; the ground stays as it was. With
-     * `sedge_ground_advance` the frame counts as sent once a radio that may refuse it has taken it. Returns 0 or
+     * Writes the next frame for the link as `sedge_ground_pull` does; the ground does not change. Call
+     * `sedge_ground_advance`, and the frame counts as sent, once a radio that may refuse it has taken it. Returns 0 or
      * `SEDGE_NODE_ROOM`.
      */
     sedge_ground_peek(ground: Partial<sedge_ground>, out: Uint8Array, count: Partial<Box>): number;
     /**
-     * Counts the frame that goes on the link next as sent, as `sedge_ground_pull` does; nothing changes where nothing
-     * is to be sent. Returns 0.
+     * Counts the next frame for the link as sent, as `sedge_ground_pull` does. If nothing is to be sent, nothing
+     * changes. Returns 0.
      */
     sedge_ground_advance(ground: Partial<sedge_ground>): number;
     /**
-     * Takes octets that came from the spacecraft, and writes what they are. Returns 0, or `SEDGE_NODE_MEMORY` where
+     * Takes octets that came from the spacecraft, and writes what they are. Returns 0, or `SEDGE_NODE_MEMORY`, only if
      * they finish a packet.
      */
     sedge_ground_telemetry(ground: Partial<sedge_ground>, octets: Uint8Array, heard: Partial<sedge_heard>): number;
     /**
-     * Takes a report that came by itself, a CLCW as a front end hands it on (232.0-B-4, 4.2), and writes what becomes
-     * of it, as `sedge_ground_telemetry` does of the report in a telemetry frame; telemetry is not touched. The last
-     * one may be handed on again before the next, which changes nothing; an older one may not come again as if it were
+     * Takes a CLCW that came by itself, as a front end forwards it (232.0-B-4, 4.2), and writes what becomes of it, as
+     * `sedge_ground_telemetry` does for the CLCW of a telemetry frame. Telemetry is not touched. The front end may
+     * repeat the last CLCW before the next one, which changes nothing; it may not forward an older one as if it were
      * new. Returns 0, or `SEDGE_NODE_ABSENT` if the octets are not four.
      */
     sedge_ground_clcw(ground: Partial<sedge_ground>, octets: Uint8Array, heard: Partial<sedge_heard>): number;
     /**
-     * Begins to take packets out of telemetry anew, as after a restart of the spacecraft, whose counts go on elsewhere:
-     * a packet that is not finished is dropped, and the next frame is the first (132.0-B-3, 4.3.2). Packets that wait
-     * to be taken stay. Returns 0.
+     * Restarts the extraction of packets from telemetry, for example after a restart of the spacecraft, whose frame
+     * counts then continue elsewhere. An unfinished packet is dropped, and the next frame is the first (132.0-B-3,
+     * 4.3.2). Packets that wait to be taken stay. Returns 0.
      */
     sedge_ground_forget_telemetry(ground: Partial<sedge_ground>): number;
     /**
-     * Writes the report that a telemetry frame carries, of whichever spacecraft and virtual channel (232.0-B-4, 4.2);
-     * the ground stays as it was. Returns 0, or `SEDGE_NODE_ABSENT` if the octets are no frame or the frame carries no
-     * report.
+     * Writes the CLCW that a telemetry frame of any spacecraft and virtual channel carries (232.0-B-4, 4.2); the ground
+     * does not change. Returns 0, or `SEDGE_NODE_ABSENT` if the octets do not form a valid frame or the frame carries
+     * no CLCW.
      */
     sedge_ground_clcw_in(ground: Partial<sedge_ground>, octets: Uint8Array, word: Partial<sedge_clcw>): number;
-    /** Writes how many octets the oldest packet of telemetry has, 7 to 65,542; 0 where none waits. Returns 0. */
+    /** Writes the length in octets of the oldest telemetry packet, 7 to 65,542, or 0 if none waits. Returns 0. */
     sedge_ground_next_telemetry(ground: Partial<sedge_ground>, count: Partial<Box>): number;
     /**
-     * Takes the oldest packet of telemetry (132.0-B-3, 4.3.2): writes it, and the number of its octets; or 0 octets
-     * where none waits. Returns 0 or `SEDGE_NODE_ROOM`.
+     * Takes the oldest telemetry packet (132.0-B-3, 4.3.2). Writes it and the number of its octets, or 0 octets if none
+     * waits. Returns 0 or `SEDGE_NODE_ROOM`.
      */
     sedge_ground_take_telemetry(ground: Partial<sedge_ground>, out: Uint8Array, count: Partial<Box>): number;
-    /** A tick of the clock has passed. Returns the alert, of `sedge_alert`, `SEDGE_NO_ALERT` for none. */
+    /** Counts a tick of the clock. Returns the alert, of `sedge_alert`, `SEDGE_NO_ALERT` for none. */
     sedge_ground_tick(ground: Partial<sedge_ground>): number;
     /**
      * Reads the ground: how far its submissions have come, the sender's state, V(S), NN(R), transmission count and
-     * timer, what is outstanding and what waits, and how many octets a telemetry frame has. It stays as it was. Returns
-     * 0.
+     * timer, what is outstanding and what waits, and how many octets a telemetry frame has. The ground does not change.
+     * Returns 0.
      */
     sedge_ground_read(ground: Partial<sedge_ground>, read: Partial<sedge_ground_reading>): number;
     /**
-     * Writes how many of the segments that were sent and not acknowledged were accepted on board when a report of this
-     * value was made: the oldest ones (232.1-B-2, 5.1). It does so after an alert too, until V(S) is set or an
-     * initiation begins, and goes by the numbers alone: after an alert that shows a broken condition nothing of them is
-     * known, whatever it writes. If V(S) is NN(R) there are no such segments, and it writes 0 whatever the value.
-     * Returns 0, or `SEDGE_NODE_ABSENT` if there are and the value does not lie from NN(R) to V(S), so that nothing is
-     * known of them.
+     * Writes how many of the segments that were sent and not acknowledged were accepted on board when a CLCW of this
+     * value was made. They are the oldest ones (232.1-B-2, 5.1). The call does so after an alert too, until V(S) is set
+     * or an initiation begins. It uses only the numbers: after an alert that shows a broken condition nothing is known
+     * of these segments, whatever the call writes. If V(S) is NN(R), there are no such segments, and the call writes 0
+     * for every value. Returns 0, or `SEDGE_NODE_ABSENT` if there are such segments and the value does not lie from
+     * NN(R) to V(S), so that nothing is known of them.
      */
     sedge_ground_accepted_beyond(ground: Partial<sedge_ground>, value: number, accepted: Partial<Box>): number;
     /**
-     * Writes how many first ones of the session's submissions are known to be on board whole by a report of this value:
-     * those that are acknowledged, and those all of whose segments it says were accepted (232.1-B-2, 5.1). It does so
-     * after an alert too. Returns 0, or `SEDGE_NODE_ABSENT` where nothing is known: no session has begun, V(S) was set
-     * since, an alert came since that shows a broken condition, or V(S) is not NN(R) and the value does not lie from
-     * NN(R) to V(S).
+     * Writes how many of the session's submissions, from the first on, are known to be on board whole from a CLCW of
+     * this value. They are those that are acknowledged, and those whose segments were all accepted according to the
+     * CLCW (232.1-B-2, 5.1). The call does so after an alert too. Returns 0, or `SEDGE_NODE_ABSENT` where nothing is
+     * known: no session has begun, V(S) was set since, an alert has shown a broken condition since, or V(S) is not
+     * NN(R) and the value does not lie from NN(R) to V(S).
      */
     sedge_ground_known_on_board(ground: Partial<sedge_ground>, value: number, whole: Partial<Box>): number;
     /**
-     * Begins the next session after an alert, where the last one has got to: sets V(S) to the value of a report that
-     * was made when nothing was on its way up, begins by Unlock (232.1-B-2, 5.2.4), and writes how many first ones of
-     * the submissions of the session that ended are on board whole, counted within that session; those after them are
-     * to be submitted again. A submission of more octets than a segment takes (`part`) that holds several packets is
-     * whole only with its last one, so that some of its packets may be on board before, and come again. Returns 0, or
-     * `SEDGE_NODE_NOT_KNOWN` (10), and nothing has changed: the sender is not in S6, no session has begun, V(S) was set
-     * since, an alert came since that shows a broken condition, or V(S) is not NN(R) and the value does not lie from
+     * Begins the next session after an alert, from where the last one has got to. Sets V(S) to the value of a CLCW that
+     * was made when nothing was in transit on the uplink, and begins by Unlock (232.1-B-2, 5.2.4). Writes how many of
+     * the ended session's submissions, from the first on, are on board whole, counted within that session; resubmit
+     * those after them. A submission of several packets that has more octets than a segment takes (`part`) is whole
+     * only with its last packet. Some of its packets may therefore be on board already, and be delivered again. Returns
+     * 0, or `SEDGE_NODE_NOT_KNOWN` (10), and nothing has changed: the sender is not in S6, no session has begun, V(S)
+     * was set since, an alert has shown a broken condition since, or V(S) is not NN(R) and the value does not lie from
      * NN(R) to V(S).
      */
     sedge_ground_resume(ground: Partial<sedge_ground>, value: number, whole: Partial<Box>): number;
     /**
-     * Writes what is kept of the ground, in one record of fixed size, and the ground stays as it was. A program stores
-     * the record after each call, and after a pull before the frame goes out; where the ground is lost,
-     * `sedge_ground_open_kept` opens another at it. Of submissions that were not sent whole nothing is kept, nor of
-     * bypass packets, of telemetry, and of what directives set. Returns 0.
+     * Writes the ground's record, which has a fixed size; the ground does not change. A program stores the record after
+     * each call, and after a pull before the frame goes out. If the ground is lost, `sedge_ground_open_kept` opens
+     * another one from the record. The record contains nothing of submissions that were not sent whole, of bypass
+     * packets, of telemetry, or of what directives set. Returns 0.
      */
     sedge_ground_kept(ground: Partial<sedge_ground>, kept: Partial<sedge_kept_ground>): number;
     /**
-     * Opens a ground that goes on where another was lost, in S6, at the record that `sedge_ground_kept` wrote: with its
-     * V(S), its NN(R) and its account of submissions. It is the other after Terminate, without what waited, and with
-     * the window, the limit and the timer of the configuration; so `sedge_ground_resume` begins the next session, as
-     * after an alert. It is opened as `sedge_ground_open` does. Returns 0, `SEDGE_NODE_OUT_OF_RANGE` (also for a record
-     * that no ground of this configuration writes) or `SEDGE_NODE_MEMORY`.
+     * Opens a ground that continues, in S6, from the record that `sedge_ground_kept` wrote of a lost one: with its
+     * V(S), its NN(R) and its counts of submissions. The new ground is the lost one after Terminate, without what
+     * waited, and with the window, the limit and the timer of the configuration. So `sedge_ground_resume` begins the
+     * next session, as after an alert. A ground that the handle holds is treated as by `sedge_ground_open`. Returns 0,
+     * `SEDGE_NODE_OUT_OF_RANGE` (also for a record that no ground of this configuration writes) or `SEDGE_NODE_MEMORY`.
      */
     sedge_ground_open_kept(ground: Partial<sedge_ground>, config: Partial<sedge_config>, kept: Partial<sedge_kept_ground>): number;
     /**
-     * Opens a spacecraft, in place of one that the handle holds, as `sedge_ground_open` does. Returns 0,
+     * Opens a spacecraft instead of one that the handle holds, as `sedge_ground_open` does. Returns 0,
      * `SEDGE_NODE_OUT_OF_RANGE` or `SEDGE_NODE_MEMORY`.
      */
     sedge_spacecraft_open(spacecraft: Partial<sedge_spacecraft>, config: Partial<sedge_config>): number;
-    /** Closes the spacecraft, where there is one; the handle holds none then. */
+    /** Closes the spacecraft, if there is one; the handle then holds none. */
     sedge_spacecraft_close(spacecraft: Partial<sedge_spacecraft>): void;
     /**
-     * Takes octets that came from the ground, and writes what they are. Returns 0, or `SEDGE_NODE_MEMORY` where a
-     * frame's data are handed on.
+     * Takes octets that came from the ground, and writes what they are. Returns 0, or `SEDGE_NODE_MEMORY`, only if a
+     * frame's data are passed on.
      */
     sedge_spacecraft_receive(spacecraft: Partial<sedge_spacecraft>, octets: Uint8Array, received: Partial<sedge_received>): number;
     /**
      * Writes the MAP of the oldest packet of sequence-controlled frames, and the number of its octets, 7 to 65,542; or
-     * 0 octets alone where none waits. Returns 0.
+     * only 0 octets if none waits. Returns 0.
      */
     sedge_spacecraft_next(spacecraft: Partial<sedge_spacecraft>, map: Partial<Box>, count: Partial<Box>): number;
     /**
-     * Takes the oldest packet of sequence-controlled frames (232.0-B-4, 4.4): writes its MAP, the packet, and the
-     * number of its octets; or 0 octets alone where none waits. Returns 0 or `SEDGE_NODE_ROOM`.
+     * Takes the oldest packet of sequence-controlled frames (232.0-B-4, 4.4). Writes its MAP, the packet, and the
+     * number of its octets; or only 0 octets if none waits. Returns 0 or `SEDGE_NODE_ROOM`.
      */
     sedge_spacecraft_take(spacecraft: Partial<sedge_spacecraft>, map: Partial<Box>, out: Uint8Array, count: Partial<Box>): number;
-    /** Writes the same of the oldest packet that came past the sequence control. Returns 0. */
+    /**
+     * Writes the MAP and the number of octets of the oldest bypass packet, as `sedge_spacecraft_next` does. Returns 0.
+     */
     sedge_spacecraft_next_bypass(spacecraft: Partial<sedge_spacecraft>, map: Partial<Box>, count: Partial<Box>): number;
     /**
-     * Takes the oldest packet that came past the sequence control (232.0-B-4, 4.4), as `sedge_spacecraft_take` does.
-     * Returns 0 or `SEDGE_NODE_ROOM`.
+     * Takes the oldest bypass packet (232.0-B-4, 4.4), as `sedge_spacecraft_take` does. Returns 0 or `SEDGE_NODE_ROOM`.
      */
     sedge_spacecraft_take_bypass(spacecraft: Partial<sedge_spacecraft>, map: Partial<Box>, out: Uint8Array, count: Partial<Box>): number;
     /**
      * Queues a packet to be sent as telemetry (132.0-B-3, 4.2.2). Returns 0, or the first of `SEDGE_TM_NOT_A_PACKET`
-     * (the octets are not exactly one packet, or an idle one) and `SEDGE_TM_MEMORY`.
+     * (the octets are not exactly one packet, or are an idle one) and `SEDGE_TM_MEMORY`.
      */
     sedge_spacecraft_telemetry(spacecraft: Partial<sedge_spacecraft>, packet: Uint8Array): number;
     /**
@@ -960,45 +968,46 @@ export interface Calls {
      */
     sedge_spacecraft_telemetry_frame(spacecraft: Partial<sedge_spacecraft>, out: Uint8Array, count: Partial<Box>): number;
     /**
-     * Reads the spacecraft: how many octets a telemetry frame has, how many packets wait, the report that the next
-     * frame carries, its counts, and the receiver's state. It stays as it was. Returns 0.
+     * Reads the spacecraft: how many octets a telemetry frame has, how many packets wait, the CLCW that the next frame
+     * carries, its counts, and the receiver's state. The spacecraft does not change. Returns 0.
      */
     sedge_spacecraft_read(spacecraft: Partial<sedge_spacecraft>, read: Partial<sedge_spacecraft_reading>): number;
     /**
-     * Opens a spacecraft that goes on with what `sedge_spacecraft_read` gave before a restart on purpose: V(R), which
-     * is `value` there, `farm_b`, and the counts of telemetry frames. Its receiver is Open with no flag, and no packet
-     * is on board; the other fields are not looked at. It is opened as `sedge_spacecraft_open` does. Returns 0,
-     * `SEDGE_NODE_OUT_OF_RANGE` (also if `farm_b` is not below 4) or `SEDGE_NODE_MEMORY`.
+     * Opens a spacecraft that continues with what `sedge_spacecraft_read` wrote before a deliberate restart: V(R),
+     * which is `value` there, `farm_b`, and the telemetry frame counts. The other fields are not read. The receiver is
+     * Open with no flag set, and no packet is on board. A spacecraft that the handle holds is treated as by
+     * `sedge_spacecraft_open`. Returns 0, `SEDGE_NODE_OUT_OF_RANGE` (also if `farm_b` is not below 4) or
+     * `SEDGE_NODE_MEMORY`.
      */
     sedge_spacecraft_open_kept(spacecraft: Partial<sedge_spacecraft>, config: Partial<sedge_config>, kept: Partial<sedge_spacecraft_reading>): number;
     /**
-     * Opens a link with two new nodes, in place of one that the handle holds, as `sedge_ground_open` does. Returns 0,
+     * Opens a link with two new nodes instead of one that the handle holds, as `sedge_ground_open` does. Returns 0,
      * `SEDGE_NODE_OUT_OF_RANGE` or `SEDGE_NODE_MEMORY`.
      */
     sedge_sim_open(sim: Partial<sedge_sim>, config: Partial<sedge_config>): number;
-    /** Closes the link, where there is one; the handle holds none then. */
+    /** Closes the link, if there is one; the handle then holds none. */
     sedge_sim_close(sim: Partial<sedge_sim>): void;
     /** The name of a `sedge_sim_fault`; "?" for another number. */
     sedge_sim_fault_name(number: number): string;
     /**
-     * An event happens. Returns 0 and writes the reply; or a number of `sedge_sim_fault`, and nothing happens; or
-     * `SEDGE_NODE_NONE`, also for a kind that is none, where `sedge_ground_directive` answers it to the directive and
-     * the value, and for a value above 255 by which the ground is to resume. No directive, resumption, loss, damage,
-     * control word by itself, tick or take answers `SEDGE_SIM_MEMORY`. What a node refuses is a reply. The octets of a
-     * frame that was sent, and of a packet that was taken, stay to be read until the next event (`sedge_sim_octets`).
+     * Lets an event happen. Returns 0 and writes the reply; or a number of `sedge_sim_fault`, and nothing happens; or
+     * `SEDGE_NODE_NONE`, also for a number that is not a kind, for a directive and a value if `sedge_ground_directive`
+     * returns it for them, and for a value above 255 with which the ground is to resume. No directive, resumption,
+     * loss, damage, CLCW by itself, tick or take returns `SEDGE_SIM_MEMORY`. A node's refusal is a reply. The octets of
+     * a frame that was sent, and of a packet that was taken, can be read until the next event (`sedge_sim_octets`).
      */
     sedge_sim_step(sim: Partial<sedge_sim>, event: Partial<sedge_event>, reply: Partial<sedge_reply>): number;
     /**
-     * Writes the octets of the last event's frame or packet, of which the reply has the `count`, and their number; 0
-     * octets where the reply had none. They stay. Returns 0 or `SEDGE_NODE_ROOM`.
+     * Writes the octets of the last event's frame or packet, and their number, which is the reply's `count`; or 0
+     * octets if the reply had none. The octets stay. Returns 0 or `SEDGE_NODE_ROOM`.
      */
     sedge_sim_octets(sim: Partial<sedge_sim>, out: Uint8Array, count: Partial<Box>): number;
-    /** Reads the link: how the session began and how far it is. It stays as it was. Returns 0. */
+    /** Reads the link: how the session began and how far it is. The link does not change. Returns 0. */
     sedge_sim_read(sim: Partial<sedge_sim>, read: Partial<sedge_sim_reading>): number;
-    /** Reads the link's ground, as `sedge_ground_read` reads a ground. The link stays as it was. Returns 0. */
+    /** Reads the link's ground, as `sedge_ground_read` reads a ground. The link does not change. Returns 0. */
     sedge_sim_ground_read(sim: Partial<sedge_sim>, read: Partial<sedge_ground_reading>): number;
     /**
-     * Reads the link's spacecraft, as `sedge_spacecraft_read` reads a spacecraft. The link stays as it was. Returns 0.
+     * Reads the link's spacecraft, as `sedge_spacecraft_read` reads a spacecraft. The link does not change. Returns 0.
      */
     sedge_sim_spacecraft_read(sim: Partial<sedge_sim>, read: Partial<sedge_spacecraft_reading>): number;
     /**
@@ -1016,13 +1025,13 @@ export interface Calls {
      */
     sedge_sim_submission(sim: Partial<sedge_sim>, k: number, map: Partial<Box>, out: Uint8Array, count: Partial<Box>): number;
     /**
-     * Writes how many entries a record has, of `sedge_record`; the MAP counts for `SEDGE_SUBMITTED` and
-     * `SEDGE_DELIVERED` alone. For another number there are none. Returns 0.
+     * Writes how many entries a record has, of `sedge_record`; the MAP matters only for `SEDGE_SUBMITTED` and
+     * `SEDGE_DELIVERED`. For any other number there are none. Returns 0.
      */
     sedge_sim_count(sim: Partial<sedge_sim>, record: number, map: number, entries: Partial<Box>): number;
     /**
-     * Writes how many octets entry `k` has, counted from 0. Returns 0, or `SEDGE_NODE_ABSENT` if there are not that
-     * many.
+     * Writes how many octets entry `k` has, counted from 0. Returns 0, or `SEDGE_NODE_ABSENT` if there are not so many
+     * entries.
      */
     sedge_sim_entry_length(sim: Partial<sedge_sim>, record: number, map: number, k: number, count: Partial<Box>): number;
     /**
@@ -1180,6 +1189,10 @@ export const numbers: {
     readonly SEDGE_TC_LONGEST: 1024;
     readonly SEDGE_SEGMENT_LONGEST: 1016;
     readonly SEDGE_TM_LONGEST: 2048;
+    readonly SEDGE_LOG_RECORD_OCTETS: 50;
+    readonly SEDGE_LOG_STATUS_OCTETS: 27;
+    readonly SEDGE_LOG_ORDER_OCTETS: 23;
+    readonly SEDGE_LOG_COMMAND_OVERHEAD: 14;
     readonly SEDGE_NODE_OK: 0;
     readonly SEDGE_NODE_NOT_OPEN: 1;
     readonly SEDGE_NODE_CLOSED_MAP: 2;

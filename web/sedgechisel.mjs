@@ -1,7 +1,7 @@
-// Both libraries for JavaScript: load(source) gives the calls of c/include/sedgechisel.h and sedgechisel_nodes.h, by
-// their names there, of the module that web/build makes. Octets are a Uint8Array, which a call copies in, and out where
-// it writes there; its length is the number that stands after it in C. A struct is an object with its fields; a pointer
-// to a number is an object with a value. A call writes into those that it is given.
+// Both libraries for JavaScript: load(source) returns the calls of c/include/sedgechisel.h and sedgechisel_nodes.h, by
+// their names there, from the module that web/build makes. Octets are a Uint8Array, which a call copies in, and out if
+// it writes there; its length is the number that follows it in C. A struct is an object with its fields; a pointer to a
+// number is an object with a value. A call writes into the objects that are passed to it.
 import { listOf, numberOf, objectOf, octetsOf } from './arguments.mjs';
 import { calls, numbers, structs, texts } from './calls.mjs';
 
@@ -17,8 +17,8 @@ const READ = { 1: (view, at) => view.getUint8(at), 2: (view, at) => view.getUint
 const WRITE = { 1: (view, at, it) => view.setUint8(at, it), 2: (view, at, it) => view.setUint16(at, it, true),
     4: (view, at, it) => view.setUint32(at, it, true), 8: (view, at, it) => view.setBigUint64(at, it, true) };
 
-// The memory of nodes, and of what calls are given: places of 16, 32, 64 .. octets after the module's own memory, with
-// lists of those that are free. The order of a place, of which its size is a power of 2, is noted by its address: a Map
+// The memory of nodes, and of the arguments of calls: places of 16, 32, 64 .. octets after the module's own memory, with
+// lists of those that are free. The order of a place (its size as a power of 2) is stored by its address: a Map
 // is slow to forget one of many.
 class Places {
     constructor(memory, begin) {
@@ -28,7 +28,7 @@ class Places {
         this.orders = new Uint8Array(1 << 16);
     }
 
-    // The address of a place; 0 where there is none.
+    // The address of a place; 0 if there is none.
     take(count) {
         const order = count <= 16 ? 4 : 32 - Math.clz32(count - 1), size = 2 ** order;
         const at = this.free[order]?.pop() ?? this.end;

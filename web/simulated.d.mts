@@ -19,7 +19,7 @@ export class Link extends Directing {
      */
     submit(map: number, packets: Uint8Array): void;
     /**
-     * A packet is submitted past the sequence control.
+     * A packet is submitted by bypass.
      * @param {number} map
      * @param {Uint8Array} packet
      */
@@ -30,7 +30,7 @@ export class Link extends Directing {
      */
     send(): Uint8Array | null;
     /**
-     * The first frame on its way up arrives.
+     * The first frame in transit on the uplink arrives.
      * @returns {Received}
      * @throws {SimFault} 7 (NothingInTransit)
      */
@@ -53,7 +53,7 @@ export class Link extends Directing {
      */
     report(): Clcw;
     /**
-     * The first frame on its way down arrives.
+     * The first frame in transit on the downlink arrives.
      * @returns {Heard}
      * @throws {SimFault} 7 (NothingInTransit)
      */
@@ -71,13 +71,13 @@ export class Link extends Directing {
      */
     downDamage(octets: Uint8Array): Heard;
     /**
-     * The first frame on its way down arrives, and its report alone reaches the ground.
+     * The first frame in transit on the downlink arrives, and only its CLCW reaches the ground.
      * @returns {Heard}
      * @throws {SimFault} 7 (NothingInTransit)
      */
     downClcw(): Heard;
     /**
-     * The ground goes on after an alert, by a report's value.
+     * The ground resumes after an alert, with a CLCW's value.
      * @param {number} value
      * @returns {number} how many of the ended session's submissions, counted from the first, are on board whole
      * @throws {LinkFault} 10 (NotKnown)
@@ -94,7 +94,7 @@ export class Link extends Directing {
      */
     take(): OnMap | null;
     /**
-     * A packet that came past the sequence control is taken on board.
+     * A bypass packet is taken on board.
      * @returns {OnMap | null}
      */
     takeBypass(): OnMap | null;
@@ -114,7 +114,7 @@ export class Link extends Directing {
      */
     get outstanding(): number;
     /**
-     * How many of the first ones of the frames sent the ground holds acknowledged.
+     * How many of the frames sent, from the first on, the ground holds as acknowledged.
      * @returns {number}
      */
     get acknowledged(): number;
@@ -124,17 +124,17 @@ export class Link extends Directing {
      */
     get begun(): import("./meanings.mjs").Begun;
     /**
-     * Whether the session began with nothing on its way, and without a CLCW check only where V(R) was V(S).
+     * The session began with nothing in transit, and without a CLCW check only if V(R) was V(S).
      * @returns {boolean}
      */
     get clean(): boolean;
     /**
-     * Whether the session had an idle start (docs/PROMISES.md).
+     * The session had an idle start (docs/PROMISES.md).
      * @returns {boolean}
      */
     get idle(): boolean;
     /**
-     * Whether a CLCW has taken the ground from S4 or S5 to S1.
+     * A CLCW has taken the ground from S4 or S5 to S1.
      * @returns {boolean}
      */
     get confirmed(): boolean;
@@ -149,12 +149,12 @@ export class Link extends Directing {
      */
     get nn(): number;
     /**
-     * How many of the outstanding segments wait to be sent for the first time.
+     * How many outstanding segments wait to be sent for the first time.
      * @returns {number}
      */
     get unsent(): number;
     /**
-     * How many of the outstanding segments are to be sent again.
+     * How many outstanding segments are to be retransmitted.
      * @returns {number}
      */
     get due(): number;
@@ -164,7 +164,7 @@ export class Link extends Directing {
      */
     get bypassUnsent(): number;
     /**
-     * The ticks that are left of the timer, or 0 where it does not run.
+     * The ticks that are left while the timer runs, otherwise 0.
      * @returns {number}
      */
     get ticks(): number;

@@ -84,7 +84,7 @@ export class Link extends Directing {
     }
 
     /**
-     * A packet is submitted past the sequence control.
+     * A packet is submitted by bypass.
      * @param {number} map
      * @param {Uint8Array} packet
      */
@@ -101,7 +101,7 @@ export class Link extends Directing {
     }
 
     /**
-     * The first frame on its way up arrives.
+     * The first frame in transit on the uplink arrives.
      * @returns {Received}
      * @throws {SimFault} 7 (NothingInTransit)
      */
@@ -136,7 +136,7 @@ export class Link extends Directing {
     }
 
     /**
-     * The first frame on its way down arrives.
+     * The first frame in transit on the downlink arrives.
      * @returns {Heard}
      * @throws {SimFault} 7 (NothingInTransit)
      */
@@ -163,7 +163,7 @@ export class Link extends Directing {
     }
 
     /**
-     * The first frame on its way down arrives, and its report alone reaches the ground.
+     * The first frame in transit on the downlink arrives, and only its CLCW reaches the ground.
      * @returns {Heard}
      * @throws {SimFault} 7 (NothingInTransit)
      */
@@ -172,7 +172,7 @@ export class Link extends Directing {
     }
 
     /**
-     * The ground goes on after an alert, by a report's value.
+     * The ground resumes after an alert, with a CLCW's value.
      * @param {number} value
      * @returns {number} how many of the ended session's submissions, counted from the first, are on board whole
      * @throws {LinkFault} 10 (NotKnown)
@@ -207,7 +207,7 @@ export class Link extends Directing {
     }
 
     /**
-     * A packet that came past the sequence control is taken on board.
+     * A bypass packet is taken on board.
      * @returns {OnMap | null}
      */
     takeBypass() {
@@ -245,7 +245,7 @@ export class Link extends Directing {
     }
 
     /**
-     * How many of the first ones of the frames sent the ground holds acknowledged.
+     * How many of the frames sent, from the first on, the ground holds as acknowledged.
      * @returns {number}
      */
     get acknowledged() {
@@ -261,7 +261,7 @@ export class Link extends Directing {
     }
 
     /**
-     * Whether the session began with nothing on its way, and without a CLCW check only where V(R) was V(S).
+     * The session began with nothing in transit, and without a CLCW check only if V(R) was V(S).
      * @returns {boolean}
      */
     get clean() {
@@ -269,7 +269,7 @@ export class Link extends Directing {
     }
 
     /**
-     * Whether the session had an idle start (docs/PROMISES.md).
+     * The session had an idle start (docs/PROMISES.md).
      * @returns {boolean}
      */
     get idle() {
@@ -277,7 +277,7 @@ export class Link extends Directing {
     }
 
     /**
-     * Whether a CLCW has taken the ground from S4 or S5 to S1.
+     * A CLCW has taken the ground from S4 or S5 to S1.
      * @returns {boolean}
      */
     get confirmed() {
@@ -307,7 +307,7 @@ export class Link extends Directing {
     }
 
     /**
-     * How many of the outstanding segments wait to be sent for the first time.
+     * How many outstanding segments wait to be sent for the first time.
      * @returns {number}
      */
     get unsent() {
@@ -315,7 +315,7 @@ export class Link extends Directing {
     }
 
     /**
-     * How many of the outstanding segments are to be sent again.
+     * How many outstanding segments are to be retransmitted.
      * @returns {number}
      */
     get due() {
@@ -331,7 +331,7 @@ export class Link extends Directing {
     }
 
     /**
-     * The ticks that are left of the timer, or 0 where it does not run.
+     * The ticks that are left while the timer runs, otherwise 0.
      * @returns {number}
      */
     get ticks() {

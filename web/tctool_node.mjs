@@ -1,10 +1,10 @@
 #!/usr/bin/env node
-// The command tctool in node, by its module: `web/tctool_node.mjs WORDS ..`. The module is tctool.wasm beside this
+// The command tctool in node, from its module: `web/tctool_node.mjs WORDS ..`. The module is tctool.wasm next to this
 // file, or what TCTOOL_MODULE names.
 import { existsSync, fstatSync, openSync, readFileSync, readSync, writeSync } from 'node:fs';
 import { run } from './tctool.mjs';
 
-// What a call of the system returns, less its error where it fails. Where a pipe is not ready it is made again.
+// What a call of the system returns, or minus its error if it fails. If a pipe is not ready, the call is repeated.
 function tried(call) {
     for (;;) {
         try {
@@ -16,8 +16,8 @@ function tried(call) {
     }
 }
 
-// The words of the command line: texts, or octets where one may not be UTF-8, of which node makes U+FFFD, and the system
-// (Linux) says them.
+// The arguments of the command line: texts, or octets if one may not be UTF-8. Node turns such octets into U+FFFD; the
+// system (Linux) returns them.
 function words() {
     const texts = process.argv.slice(2);
     const whole = '/proc/self/cmdline';

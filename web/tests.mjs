@@ -1,5 +1,5 @@
-// Tests the module for JavaScript: `node tests.mjs MODULE`. Codecs, both machines, two nodes, memory that is given back,
-// and what is wrong. It ends with 0 where all is as wanted, and with an Error that says what is not.
+// Tests the module for JavaScript: `node tests.mjs MODULE`. Codecs, both machines, two nodes, memory that is given
+// back, and what is wrong. It ends with 0 where all is as wanted, and with an Error that says what is not.
 import assert from 'node:assert/strict';
 import { readFileSync } from 'node:fs';
 import { load, numbers as n } from './sedgechisel.mjs';

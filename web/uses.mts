@@ -1,5 +1,9 @@
-// What TypeScript has to accept of the package, and what it has to refuse; web/package_check compiles it, and does not run it.
-import { Alert, Clcw, ConfigFault, Fault, Ground, Link, LinkFault, Spacecraft, load, numbers } from 'sedgechisel';
+// What TypeScript has to accept of the package, and what it has to refuse; web/package_check compiles it, and does not
+// run it.
+import {
+    Alert, BoardStatus, Clcw, ConfigFault, Executor, Fault, Ground, Link, LinkFault, LogFault, Spacecraft, commandPacket,
+    historyAfter, load, newRecord, numbers, rebuildOrder,
+} from 'sedgechisel';
 import { load as loadCalls } from 'sedgechisel/calls';
 import { eventOf, scriptOf } from 'sedgechisel/script';
 import { run, type System } from 'sedgechisel/tctool';
@@ -25,7 +29,20 @@ export async function uses(octets: Uint8Array, system: System): Promise<number> 
     return [kept, state, word, name, faults, packet, map, scriptOf(''), eventOf('send')].length + accepted + fault + status;
 }
 
-export function misuses(ground: Ground): void {
+export function restarts(board: Executor): bigint {
+    const action = board.next();
+    const kind: 'NOTHING' | 'WRITE_FIRST' | 'WRITE_SECOND' | 'EXECUTE' | 'RESTART' = action.kind;
+    const octets: Uint8Array = kind === 'EXECUTE' ? action.content : action.octets;
+    const places: [Uint8Array, Uint8Array] = [octets, newRecord()];
+    board.done(action);
+    const content: Uint8Array = board.offer(commandPacket(5, 0, 1, octets)), again = new Executor(...places, 7);
+    again.obey(rebuildOrder(6, 0, 7, 1, historyAfter(0, content)));
+    const { kind: said, known, begun } = BoardStatus.decode(again.status(1));
+    const isKnown: boolean = said === 'SAYS' && begun;
+    return isKnown ? known : BigInt(new LogFault(5).number);
+}
+
+export function misuses(ground: Ground, board: Executor): void {
     // @ts-expect-error: there is no such parameter
     new Ground({ windw: 4 });
     // @ts-expect-error: a MAP is a number
@@ -36,6 +53,14 @@ export function misuses(ground: Ground): void {
     if (ground.state === 'S7') return;
     // @ts-expect-error: there may be no frame
     ground.pull().length;
+    // @ts-expect-error: an executor has two places and a mark
+    new Executor(newRecord());
+    // @ts-expect-error: an action is one that `next` returned
+    board.done({ kind: 'EXECUTE' });
+    // @ts-expect-error: there is no such kind
+    if (board.next().kind === 'WRITE') return;
+    // @ts-expect-error: an action stays as it is
+    board.next().number = 4;
     // @ts-expect-error: it is not for programs
     ground.asked(() => 0);
 }

@@ -24,7 +24,7 @@ export function countOf(count?: bigint | undefined): number;
  */
 export function alertOf(number: number): Alert | null;
 /**
- * The control word of a struct that has its fields.
+ * The CLCW of a struct that has its fields.
  * @param {Partial<import('./sedgechisel.mjs').sedge_clcw>} it
  * @returns {Clcw}
  */
@@ -93,13 +93,18 @@ export class TelemetryFault extends Fault {
     /** @param {number} number */
     constructor(number: number);
 }
-/** Why octets are no control word (232.0-B-4). */
+/** Why octets are not a valid CLCW (232.0-B-4). */
 export class ClcwFault extends Fault {
     /** @param {number} number */
     constructor(number: number);
 }
 /** Why an event does not take place on a simulated link. */
 export class SimFault extends Fault {
+    /** @param {number} number */
+    constructor(number: number);
+}
+/** Why a board does not take a packet, a status is not read, or a packet is not written. */
+export class LogFault extends Fault {
     /** @param {number} number */
     constructor(number: number);
 }
@@ -122,7 +127,7 @@ export class Alert {
 /** A communications link control word (232.0-B-4, 4.2): the report on the receiver. */
 export class Clcw {
     /**
-     * The control word of four octets.
+     * Reads four octets as a CLCW.
      * @param {Uint8Array} octets
      * @returns {Clcw}
      * @throws {ClcwFault} the first that applies
@@ -150,7 +155,7 @@ export class Clcw {
     /** The report value, V(R) of the receiver. */
     value: number;
     /**
-     * The control word as four octets.
+     * Returns the CLCW as four octets.
      * @returns {Uint8Array}
      * @throws {ClcwFault} 5 (Range)
      */

@@ -1,4 +1,4 @@
-// What the nodes for JavaScript share: the calls of the loaded module, faults, alerts, control words, and what became of
+// What the nodes for JavaScript share: the calls of the loaded module, faults, alerts, CLCWs, and what became of
 // received octets. What numbers mean, and how they are called, is web/meanings.mjs, which web/bindings makes.
 import { numberOf, objectOf } from './arguments.mjs';
 import { meanings, members, ranges } from './meanings.mjs';
@@ -101,7 +101,7 @@ export class TelemetryFault extends Fault {
     }
 }
 
-/** Why octets are no control word (232.0-B-4). */
+/** Why octets are not a valid CLCW (232.0-B-4). */
 export class ClcwFault extends Fault {
     /** @param {number} number */
     constructor(number) {
@@ -115,6 +115,14 @@ export class SimFault extends Fault {
     /** @param {number} number */
     constructor(number) {
         super(number, sedge().sedge_sim_fault_name(number), meanings.sim_fault[number] ?? '?');
+    }
+}
+
+/** Why a board does not take a packet, a status is not read, or a packet is not written. */
+export class LogFault extends Fault {
+    /** @param {number} number */
+    constructor(number) {
+        super(number, sedge().sedge_log_fault_name(number), meanings.log_fault[number] ?? '?');
     }
 }
 
@@ -183,7 +191,7 @@ export class Clcw {
     }
 
     /**
-     * The control word of four octets.
+     * Reads four octets as a CLCW.
      * @param {Uint8Array} octets
      * @returns {Clcw}
      * @throws {ClcwFault} the first that applies
@@ -196,7 +204,7 @@ export class Clcw {
     }
 
     /**
-     * The control word as four octets.
+     * Returns the CLCW as four octets.
      * @returns {Uint8Array}
      * @throws {ClcwFault} 5 (Range)
      */
@@ -234,7 +242,7 @@ export class Clcw {
 }
 
 /**
- * The control word of a struct that has its fields.
+ * The CLCW of a struct that has its fields.
  * @param {Partial<import('./sedgechisel.mjs').sedge_clcw>} it
  * @returns {Clcw}
  */

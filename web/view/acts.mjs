@@ -44,7 +44,9 @@ function click(element) {
 // The page begins anew with an address.
 async function goTo(hash, what, holds) {
     if (location.hash === hash) history.replaceState(null, '', '#');
+    const isChanged = new Promise((end) => { addEventListener('hashchange', end, { once: true }); });
     location.hash = hash;
+    await isChanged; // (the page may already be as wanted, and begins all the same)
     const example = hash.match(/example=(\w+)/)?.[1] ?? '';
     await until(what, () => (hash.startsWith('#packed=%') || at('example').value === example) && holds());
 }
@@ -124,6 +126,28 @@ async function undoing() {
     is(at('text').value, OWN, 'the text after the key of Undo');
 }
 
+// A button that is refused says what to do, and a grey one why it does nothing, which it then does.
+async function refusals() {
+    await own();
+    const inserts = (line, advice) => {
+        document.querySelector(`[data-line="${line}"]`).click();
+        has(at('last').textContent, `Refused: ${advice}`, line);
+        is(at('swap').getAttribute('aria-disabled'), 'true', `Lose it after ${line}`);
+        at('undo').click();
+        is([at('text').value, at('last').textContent.startsWith('Line 7')], [OWN, true], 'the script after Undo');
+    };
+    inserts('up lose', 'nothing is in transit up. Go to a line where a frame is, or click its arrow. Line 8, 8 of 8: up lose');
+    inserts('down deliver', 'nothing is in transit down.');
+    has(at('swap').title, 'No frame arrives or is lost on this line', 'why Lose it is grey');
+    await goTo('#example=lost_frame&play', 'an example', () => at('last').textContent.includes('show'));
+    at('ladder').scrollTop = 0;
+    at('end').click();
+    press('End');
+    is(at('ladder').scrollTop, 0, 'the ladder after a grey End');
+    at('back').click();
+    is(at('swap').title.startsWith('The frame of this line'), true, 'what Lose it does');
+}
+
 async function droppedScript() {
     drop('some.script', `${OWN}tick\n`.replaceAll('\n', '\r\n'));
     await until('a dropped script is played', () => at('last').textContent.startsWith('Line 8, 8 of 8: tick'));
@@ -149,6 +173,7 @@ async function addresses() {
     at('link').click();
     await until('a link is copied', () => /^(Copied|In the address bar)$/.test(at('link').textContent));
     is(location.hash, hash, 'the address of the link');
+    if (location.protocol === 'file:') has(at('last').textContent, 'The link opens only where', 'a link of a file');
 }
 
 async function files() {
@@ -165,6 +190,22 @@ async function files() {
     is(picture.width > 500 && picture.height > 500, true, 'the size of the PNG');
 }
 
+// An example that is chosen is played to its end, and the menu says what both machines do there.
+async function examples() {
+    const options = [...at('example').options].filter(({ value }) => value !== '');
+    await own(`${OWN}${'tick\n'.repeat(90)}`);
+    await until('the menu has words', () => options.every(({ text }) => text.includes(': ')));
+    is(options.some(({ text }) => text === 'full buffer: sender to S3, S2; receiver to Wait'), true, 'an entry of the menu');
+    type('example', 'one_packet');
+    has(at('last').textContent, 'Line 9, 8 of 8: show', 'the last line of an example');
+    is([at('line').value, at('line').max, at('line').checkValidity()], ['9', '9', true], 'the field To line');
+    at('first').click();
+    is(at('line').value, '1', 'the field To line at the start');
+    at('line').value = '5';
+    at('to').requestSubmit();
+    has(at('last').textContent, 'Line 5, 4 of 8', 'the line of the field');
+}
+
 // 3: states, and what if.
 
 async function states() {
@@ -177,7 +218,11 @@ async function states() {
     await goTo('#example=lost_frame&play', 'an example', () => at('last').textContent.includes('show'));
     const titles = [...at('ladder').querySelectorAll('.frame title')].map((it) => it.textContent);
     const why = titles.filter((it) => it.startsWith('AD 2')).map((it) => it.match(/^Sent again.*$/m)?.[0]);
-    is(why, [undefined, 'Sent again because of line 20: value 1 retransmit arrived.'], 'why AD 2 is sent again');
+    const because = 'Sent again because of line 20: a CLCW arrived with value 1, retransmit. '
+        + 'AD 1 was lost on line 15, and AD 2 arrived ahead on line 16.';
+    is(why, [undefined, because], 'why AD 2 is sent again');
+    const labels = [...at('ladder').querySelectorAll('.frame > text')].map((it) => it.textContent);
+    is(labels.filter((it) => it.startsWith('CLCW')).length, 3, 'the labels of CLCWs');
     await goTo('#example=full_buffer&play', 'a Wait', () => turns().includes('Open \u2192 Wait') && turns().includes('S1 \u2192 S3'));
     for (const it of ['window', 'timer', 'buffer']) {
         const widths = [...at('ladder').querySelectorAll(`.used.${it}`)].map((bar) => Number(bar.getAttribute('width')));
@@ -198,6 +243,41 @@ function colours() {
     }
 }
 
+// A cause names lines, each of which is a button that goes there. The rows after the chosen one stay, and the bars of
+// the states are above what marks a row.
+async function causes() {
+    const box = () => at('ladder').getBoundingClientRect(), isSeen = (it) => it.getBoundingClientRect().top >= box().top
+        && it.getBoundingClientRect().bottom <= box().bottom;
+    const found = (selector) => at('ladder').querySelector(selector);
+    await goTo('#example=lost_frame&play', 'an example', () => at('last').textContent.includes('show'));
+    click(found('[data-step="15"] .place'));
+    const named = [...at('fop').querySelectorAll('.cause [data-goes]')];
+    is(named.map((it) => it.textContent), ['line 20', 'line 15', 'line 16'], 'the lines of a cause');
+    for (const it of named) is(it.tagName, 'BUTTON', 'a line that is named');
+    named[1].click();
+    has(at('last').textContent, 'Line 15, ', 'a line that is named');
+    is(at('lines').querySelector('[aria-current]').dataset.line, '15', 'the line in the script');
+    is(Number(found('.now.row').getAttribute('y')), Number(found('[data-step="10"] .place').getAttribute('y')), 'its row');
+    is([found('.now.row'), found('[data-step="13"] .place')].every(isSeen), true, 'the row, and rows after it');
+    is([turns().includes('S1 \u2192 S2'), found('.later.frame') !== null], [true, true], 'rows that were played before');
+    const kinds = [...at('ladder').querySelectorAll('.place, .band')].map((it) => it.classList.contains('band'));
+    is(kinds.indexOf(true) > kinds.lastIndexOf(false), true, 'the bars are above the rows');
+    for (let k = 0; k < 3; k++) at('step').click();
+    has(at('last').textContent, 'Line 20, ', 'steps over rows that were played before');
+    click(found('.later.frame .reach'));
+    has(at('last').textContent, 'by hand', 'an arrow after the chosen row');
+    at('undo').click();
+    at('end').click();
+    const frames = [...at('ladder').querySelectorAll('.frame')];
+    click(frames.find((it) => it.textContent.startsWith('AD 0')).querySelector('.reach'));
+    is(isSeen(found('.lost.cross')), true, 'the frame that was lost by hand');
+    await until('the address has its line', () => /&row=14$/.test(location.hash));
+    const { hash } = location, words = at('text').value;
+    await goTo('#example=one_packet&play', 'another example', () => at('last').textContent.includes('show'));
+    await goTo(hash, 'a script that was changed by hand', () => at('text').value === words && found('.lost.cross'));
+    is([isSeen(found('.lost.cross')), at('end').getAttribute('aria-disabled')], [true, 'true'], 'the frame that was lost');
+}
+
 // The guided scenarios: each has remarks, and ends with all acknowledged and so many packets delivered.
 async function scenarios() {
     const counts = { lost_frame: 3, lost_clcw: 2, lockout: 1, full_buffer: 2, outage_and_resume: 1, board_restart: 1 };
@@ -212,6 +292,46 @@ async function scenarios() {
     for (const it of ['Open \u2192 Lockout', 'S1 \u2192 S6', 'Lockout \u2192 Open']) is(turns().includes(it), true, it);
     const told = [...at('ladder').querySelectorAll('.told')].map((it) => it.textContent);
     is(told.includes('AD 3 discarded'), true, 'an old frame is discarded');
+}
+
+// 7: commands that are executed once, over restarts and torn writes.
+async function commands() {
+    const said = () => at('step-said').textContent, note = () => at('step-said').querySelector('.note').textContent;
+    const fates = () => [...at('fates').rows].map((it) => it.cells[2].textContent);
+    location.hash = '#commands&step=14';
+    await until('a step', () => said().startsWith('14. The board restarts in the middle of command 2.'));
+    is(`14. ${at('run').querySelector('[aria-current]').textContent}${note()}`, said(), 'the current step');
+    is([at('status').textContent.slice(0, 6), fates()[1]], ['STARTS', 'executed in part'], 'a restart');
+    at('run-end').click();
+    const once = 'executed once';
+    is(fates(), [once, 'executed in part', once, 'not executed', once], 'what happened');
+    for (const it of ['Executed: 1, 3, 5.', 'Nothing is known of: 2, 4.']) has(at('known').textContent, it, 'the status');
+    is([at('order').className, note() !== ''], ['good', true], 'the order');
+    press('Home');
+    press('ArrowRight');
+    await until('the address follows', () => location.hash === '#commands&step=2');
+    is(at('guided').getAttribute('aria-disabled'), 'true', 'a guided run');
+    press('r');
+    has(said(), '3. The board restarts before it writes the first place.', 'the key R');
+    is([at('guided').getAttribute('aria-disabled'), note()], ['false', ''], 'an own run');
+    at('run-step').click();
+    at('torn').value = '10';
+    at('tear').click();
+    has(said(), '5. The write of the first place is torn after 10 octets: the board restarts.', 'a torn write');
+    is(at('places').querySelectorAll('.bad').length, 1, 'a place without a record');
+    is([...at('places').querySelectorAll('.changed')].length > 0, true, 'what is torn is marked');
+    at('run-end').click();
+    is([fates(), at('order').className], [Array(5).fill(once), 'good'], 'an own run at its end');
+    is(at('tear').getAttribute('aria-disabled'), 'true', 'nothing is written at the end');
+    at('tear').click();
+    has(said(), 'The board writes the second place', 'no write is torn at the end');
+    at('guided').click();
+    has(said(), '1. The board starts for the first time.', 'the guided run again');
+    for (const it of document.querySelectorAll('#commands button, #torn')) {
+        it.focus();
+        is(document.activeElement === it, true, `the focus of ${it.id}`);
+    }
+    at('to-scripts').click();
 }
 
 // 6: parameters are chosen by sliders. A frame of 128 octets takes 0.128 s at 8,000 bit/s, and the longest round trip
@@ -235,8 +355,11 @@ async function whatIf() {
     click(arrow(0).querySelector('.reach'));
     is([lines().includes('up lose'), lines().filter((it) => it === 'send').length], [true, 2], 'a frame is lost and sent again');
     is([turns().includes('S1 \u2192 S2') || lines().includes('tick'), isWhole()], [true, true], 'what follows');
+    const isTold = (pattern) => pattern.test(at('last').textContent);
+    is(isTold(/^AD 0 lost by hand: \d+ lines added; AD 0 sent again\. Line /), true, 'what was lost');
     click(arrow(0).querySelector('.reach'));
     is([lines().includes('up lose'), isWhole()], [false, true], 'it arrives again');
+    is(isTold(/^AD 0 delivered by hand: \d+ lines fewer\. Line /), true, 'what was delivered');
     at('undo').click();
     at('undo').click();
     is(at('text').value, before, 'the script after two times Undo');
@@ -264,7 +387,7 @@ async function large() {
     let opened;
     const longest = await longestWait(async () => {
         drop('large.script', text);
-        await until('50,001 lines are opened', () => lines().length > 100 && at('line').max === '50003');
+        await until('50,001 lines are opened', () => lines().length > 100 && at('line').max === '50002');
         opened = performance.now() - begun;
         await until('50,001 lines are played', () => isThere(50001));
     });
@@ -308,6 +431,7 @@ function contrasts() {
         for (const name of ['ink', 'quiet', 'lost', 'good', 's1', 's2', 's3', 's4', 's5', 's6', 'm2']) {
             is(between(name, 'back') >= 4.5 ? '' : name, '', 'text of 4.5:1');
         }
+        is(between('ink', 'now') >= 4.5, true, 'what is marked, of 4.5:1');
     }
 }
 
@@ -341,23 +465,34 @@ async function still() {
         at('step').click();
         is(seen(), before, `the panels after ${at('last').textContent}`);
     }
-    for (const name of ['to-captures', 'to-choosing', 'to-scripts']) {
+    for (const name of ['to-commands', 'to-captures', 'to-choosing', 'to-scripts']) {
         at(name).click();
         is([page.scrollHeight <= innerHeight, page.scrollWidth <= innerWidth], [true, true], `no scrollbar after ${name}`);
     }
+    at('to-commands').click();
+    const parts = [...document.querySelectorAll('#commands > *, #commands .drawn > .scroll')];
+    for (at('run-first').click(); at('run-step').getAttribute('aria-disabled') === 'false'; at('run-step').click()) {
+        const isFree = parts.every((it) => it.scrollHeight <= it.clientHeight && it.scrollWidth <= it.clientWidth);
+        is([page.scrollHeight <= innerHeight, isFree], [true, true], `no scrollbar at ${at('step-said').textContent}`);
+    }
+    at('to-scripts').click();
 }
 
 const ACTS = {
     'what is typed stays, and the cause of an unreadable line is that of the command': typing,
     'an unreadable script in the address': unreadableAddress,
     'Undo, and a button whose line is unreadable': undoing,
+    'refused and grey buttons': refusals,
     'a script that is dropped': droppedScript,
+    'an example that is chosen': examples,
     'the address follows the script and the line': addresses,
     'the files Script, SVG and PNG': files,
     'the states on the ladder, and hints': states,
+    'causes, and the rows after the chosen one': causes,
     'what if a frame is lost': whatIf,
     'guided scenarios': scenarios,
     'a script of 50,000 lines': large,
+    'commands executed once, over restarts and torn writes': commands,
     'parameters chosen by sliders': choosing,
     'contrast': contrasts,
     'names, pressed buttons and print': names,

@@ -18,6 +18,14 @@ async function open(name, command, ...parts) {
     await until(`${name} is listed`, isListed);
 }
 
+// Lists the frames with their check or without it.
+async function useCheck(isWanted) {
+    const isSo = () => at('typed').textContent.includes('--check') === isWanted;
+    if (isSo()) return;
+    at('help-check').parentElement.querySelector('input').click();
+    await until(`frames ${isWanted ? 'with' : 'without'} their check`, () => isSo() && isListed());
+}
+
 async function hints() {
     await open('hint.bin', 'tc', capture(3197, 40));
     await until('a hint', () => !at('hint').hidden);
@@ -27,9 +35,29 @@ async function hints() {
     is(at('hint').hidden, true, 'no hint with --check');
 }
 
+// A capture whose first million octets have no fault, and end within a frame: only whole frames are counted, and 'Next
+// fault' lists the frames with their check.
+async function hurried() {
+    await open('bare.bin', 'tc', Uint8Array.from([...FRAMES.subarray(0, 3), 12, ...FRAMES.subarray(4, 13)]));
+    await useCheck(false);
+    at('next-fault').click();
+    await until('no fault without the check', () => at('told').textContent === 'No line has a fault without --check.');
+    await open('hurried.bin', 'tc', capture(100000, 99990));
+    await until('a hint', () => !at('hint').hidden);
+    has(at('hint').textContent, '69905 of the first 69905 frames pass a check: list with --check', 'the hint');
+    at('next-fault').click();
+    await until('a fault with the check', () => at('told').textContent.startsWith('Listed with --check. Lines '));
+    is(at('listed').querySelector('.found').textContent, '99991 invalid 6 Check', 'the fault');
+    is([at('hint').hidden, at('typed').textContent], [true, 'tctool tc --check hurried.bin'], 'the command');
+    at('next-fault').click();
+    await until('no more', () => at('told').textContent === 'No later line has a fault.');
+    await useCheck(false);
+}
+
 async function faults() {
     const times = slowness(), begun = performance.now();
     await open('faults.bin', 'farm', ...Array(4).fill(capture(100000)), capture(100000, 7, 90));
+    await useCheck(true);
     at('next-fault').click();
     await until('a fault', () => at('listed').querySelector('.found'));
     is(at('listed').querySelector('.found').textContent, '400008 invalid 6 Check', 'the first fault');
@@ -64,6 +92,7 @@ async function hundred() {
 
 globalThis.CAPTURE_ACTS = {
     'a hint where frames pass a check': hints,
+    'the first bad frame without --check': hurried,
     'the first bad frame of a capture, and the next one': faults,
     'the octets of a line, and the line of a total': records,
     'a capture of 100,000,000 octets': hundred,

@@ -7,6 +7,7 @@ import { Runner } from './runner.mjs';
 import { KINDS } from './words.mjs';
 
 const FIRST = 1 << 20, FAULT = ' invalid \\d', BEFORE = 3; // octets of a hint, and lines before one that was found
+const HEADER = 5; // octets
 // What the records of a command are, by whether frames end with their check, and how long each is.
 const RECORDS = {
     tc: (has) => ({ kind: 'frames', read: has('check') ? 'tc' : 'bare' }), packets: () => ({ kind: 'packets', read: 'packet' }),
@@ -15,6 +16,17 @@ const RECORDS = {
 };
 
 const at = (name) => document.getElementById(name);
+
+// How many octets the whole frames at the beginning have, by their length fields.
+export function wholeFrames(octets) {
+    let from = 0;
+    while (from + HEADER <= octets.length) {
+        const count = ((octets[from + 2] & 3) << 8 | octets[from + 3]) + 1;
+        if (count < HEADER || from + count > octets.length) break;
+        from += count;
+    }
+    return from;
+}
 
 // A word as a shell takes it.
 const quoted = (word) => (/^[\w./:,+-]+$/.test(word) ? word : `'${word.replaceAll("'", "'\\''")}'`);
@@ -40,12 +52,8 @@ export class Captures {
             event.preventDefault();
             this.list();
         });
-        at('next-fault').addEventListener('click', () => this.find(FAULT, 'fault'));
-        at('use-check').addEventListener('click', () => {
-            this.values.check = true;
-            this.choose(this.command.name);
-            this.list();
-        });
+        at('next-fault').addEventListener('click', () => this.nextFault());
+        at('use-check').addEventListener('click', () => this.useCheck());
         at('totals').addEventListener('click', ({ target }) => target.dataset.finds && this.find(target.dataset.finds, target.textContent));
         at('listed').addEventListener('click', ({ target }) => this.showRecord(target.closest('#listed > div')));
         at('listed').addEventListener('keydown', (event) => this.moveLine(event));
@@ -145,11 +153,33 @@ export class Captures {
         });
     }
 
+    // Lists the file again, with the check of its frames.
+    useCheck() {
+        this.values.check = true;
+        this.choose(this.command.name);
+        return this.list();
+    }
+
+    // Shows the next line with a fault. If the frames have a check, it is used from now on, since most faults are there.
+    async nextFault() {
+        if (at('next-fault').getAttribute('aria-disabled') === 'true') return;
+        const isNew = !at('hint').hidden;
+        if (isNew) await this.useCheck();
+        await this.find(FAULT, 'fault');
+        if (isNew) at('told').prepend('Listed with --check. ');
+    }
+
+    // Whether frames are read without their check, though the command could use it.
+    get lacksCheck() {
+        return !this.values.check && this.options.some(({ name }) => name === 'check');
+    }
+
     // Says whether frames that are read without their check pass one: by chance 1 in 65,536 does.
     async hint() {
-        const has = this.options.some(({ name }) => name === 'check'), totals = {}, { file } = this;
-        if (!has || this.values.check || file.size === 0) return;
-        await this.looker.run({ words: ['check', '--count', this.name], file: file.slice(0, FIRST) }, ({ lines = [] }) => {
+        const totals = {}, { file } = this;
+        if (!this.lacksCheck || file.size === 0) return;
+        const sample = file.slice(0, wholeFrames(new Uint8Array(await file.slice(0, FIRST).arrayBuffer())));
+        await this.looker.run({ words: ['check', '--count', this.name], file: sample }, ({ lines = [] }) => {
             for (const line of lines) totals[line.replace(/ \d+$/, '')] = Number(line.match(/\d+$/)?.[0]);
         });
         const good = totals.records - (totals.invalid ?? 0);
@@ -169,7 +199,8 @@ export class Captures {
             if (place === undefined) {
                 Object.assign(this, { starts, later, found: undefined });
                 this.end();
-                at('told').textContent = `No ${after === 0 ? '' : 'later '}line has ${name === 'fault' ? 'a fault' : name}.`;
+                const what = name !== 'fault' ? name : `a fault${this.lacksCheck ? ' without --check' : ''}`;
+                at('told').textContent = `No ${after === 0 ? '' : 'later '}line has ${what}.`;
                 return;
             }
             await this.showLines(place > BEFORE ? [0, place - BEFORE] : [0]);

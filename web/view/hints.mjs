@@ -1,18 +1,44 @@
 // What the ladder says of a row and of an arrow while it is pointed at: octets, fields, and the rules that were taken.
 import { numbers as n } from '../sedgechisel.mjs';
 import { digitsOf } from '../link.mjs';
-import { frameName, frameWords, reportName, reportWords } from './words.mjs';
+import { frameName, frameWords, reportName, reportWords, valueWords } from './words.mjs';
 
 export const FARM_MODES = ['Open', 'Wait', 'Lockout'];
-const LONGEST = 240;
+const LONGEST = 240, FARTHEST = 1000; // letters of a hint, and steps back to what led to another
 
 const cut = (text) => (text.length > LONGEST ? `${text.slice(0, LONGEST)}..` : text);
 
+// The last step, from one back, for which something holds, while something else does; -1 if there is none.
+function lastOf(steps, from, holds, lasts) {
+    for (let k = from; k >= Math.max(0, from - FARTHEST) && lasts(steps[k]); k--) if (holds(steps[k])) return k;
+    return -1;
+}
+
+const isLost = ({ reply: { kind, up } }) => kind === n.SEDGE_REPLY_LOST || up?.kind === n.SEDGE_RECEIVED_INVALID;
+const isAd = ({ gone }, number) => gone?.frame?.kind === n.SEDGE_TC_AD && gone.frame.n === number;
+
+// What led to a step by which frames are sent again, as far as it is known: the frame that was lost, and the one that
+// arrived ahead, or found no buffer, so that the CLCW had the retransmit flag.
+function rootWords({ steps, lines }, again) {
+    const { gone, before } = steps[again], line = (k) => `line ${lines[k] + 1}`;
+    const isSet = ({ before: { farm: was }, after: { farm: is } }) => is.retransmit && !was.retransmit;
+    const set = gone ? lastOf(steps, gone.from, isSet, ({ after }) => after.farm.retransmit) : again;
+    if (set < 0) return [];
+    const { reply: { up }, before: { farm: { vr } } } = steps[set], number = gone ? vr : before.fop.nn;
+    const isMissing = ({ before: { farm } }) => farm.vr === number;
+    const lost = lastOf(steps, set, (it) => isAd(it, number) && isLost(it), isMissing);
+    const found = { [n.SEDGE_AHEAD]: 'arrived ahead', [n.SEDGE_NO_BUFFER]: 'found no free buffer' }[gone && up?.verdict];
+    const words = [lost >= 0 && `AD ${number} was lost on ${line(lost)}`, found && `AD ${up.n} ${found} on ${line(set)}`];
+    return words.filter(Boolean);
+}
+
 // Why a frame is sent again, in words; none where it is sent for the first time.
-export function againWords({ steps, lines }, { again } = {}) {
+export function againWords(player, { again } = {}) {
     if (again === undefined) return [];
-    const { gone } = steps[again], cause = gone ? `${reportName(gone.word)} arrived` : 'the timer ran out';
-    return [`Sent again because of line ${lines[again] + 1}: ${cause}.`];
+    const { gone } = player.steps[again], word = gone && valueWords(gone.word);
+    const cause = word ? `a CLCW arrived with ${word}` : 'the timer ran out';
+    const roots = rootWords(player, again), root = roots.length > 0 ? ` ${roots.join(', and ')}.` : '';
+    return [`Sent again because of line ${player.lines[again] + 1}: ${cause}.${root}`];
 }
 
 // The CLCW that arrived, or was lost, and where it was sent; none where a frame went up.
@@ -24,6 +50,20 @@ export function clcwWords({ lines }, { word, from } = {}) {
 export function turnsOf({ before, after }) {
     const name = (of, one, other) => (one.state === other.state ? '' : `${of(one.state)} \u2192 ${of(other.state)}`);
     return { fop: name((it) => `S${it}`, before.fop, after.fop), farm: name((it) => FARM_MODES[it], before.farm, after.farm) };
+}
+
+// What both machines do in a script that was played: S2, S3, Wait and Lockout, where they go there, and the alerts.
+export function courseWords({ steps }) {
+    const found = (prefix, names) => {
+        const all = [...new Set(names.filter(Boolean))];
+        return all.length > 0 ? [`${prefix} ${all.join(', ')}`] : [];
+    };
+    const words = [
+        ...found('sender to', steps.map(({ after: { fop } }) => [2, 3].includes(fop.state) && `S${fop.state}`)),
+        ...found('receiver to', steps.map(({ after: { farm } }) => farm.state > 0 && FARM_MODES[farm.state])),
+        ...found('alert', steps.map(({ answer }) => answer.match(/\balert (\w+)/)?.[1])),
+    ];
+    return words.length > 0 ? words.join('; ') : 'sender stays in S1';
 }
 
 // The events of both machines, each with its rule or its row, and what their states become.

@@ -6,7 +6,7 @@ import { numbers as n } from '../sedgechisel.mjs';
 import { arrowHint, rowHint, turnsOf } from './hints.mjs';
 import { frameName, reportName } from './words.mjs';
 
-const ROW = 26, TOP = 54, AROUND = 20, MOST_ACROSS = 100, MOST_ROWS = 1000;
+const ROW = 26, TOP = 54, AROUND = 20, ABOVE = 2, BELOW = 4, MOST_ACROSS = 100, MOST_ROWS = 1000;
 
 function shape(name, fields, ...within) {
     const it = document.createElementNS('http://www.w3.org/2000/svg', name);
@@ -53,18 +53,20 @@ export class Ladder {
         return TOP + ROW * Math.max(count, 6) + 8;
     }
 
-    // Shows what is played of a player, at a row: that of the last line, unless another one is named.
-    show(player, row = player.at - 1) {
+    // Shows what is played of a player, then the rows that were played before, so that a row is in sight: that of the
+    // last line, unless another one is named. It scrolls no further than that needs, from where it is.
+    show(player, row = player.at - 1, from = this.box.scrollTop) {
         if (this.from !== this.box.clientWidth) this.measure();
-        Object.assign(this, { player, count: player.at, drawn: undefined });
-        this.canvas.style.height = `${this.heightOf(this.count)}px`;
-        this.box.scrollTop = row === this.count - 1 ? this.box.scrollHeight : TOP + ROW * row - this.box.clientHeight / 2;
+        Object.assign(this, { player, count: player.at, end: player.steps.length, drawn: undefined });
+        this.canvas.style.height = `${this.heightOf(this.end)}px`;
+        const y = TOP + ROW * row, least = y + ROW * BELOW - this.box.clientHeight;
+        this.box.scrollTop = Math.min(Math.max(from, least), Math.max(least, y - ROW * ABOVE));
         this.draw();
     }
 
     // Draws the rows that are seen.
     draw() {
-        const rowAt = (y) => Math.min(this.count, Math.max(0, Math.round((y - TOP) / ROW)));
+        const rowAt = (y) => Math.min(this.end, Math.max(0, Math.round((y - TOP) / ROW)));
         const { scrollTop, clientHeight } = this.box, from = rowAt(scrollTop), to = rowAt(scrollTop + clientHeight) + 1;
         if (this.drawn && from >= this.drawn[0] && to <= this.drawn[1] + 1) return;
         this.drawn = [rowAt(scrollTop - ROW * AROUND), rowAt(scrollTop + clientHeight + ROW * AROUND)];
@@ -72,9 +74,13 @@ export class Ladder {
         this.canvas.replaceChildren(this.svg);
     }
 
-    // A drawing of its own of all rows, or of the last ones where they are too many.
+    // A drawing of its own of all rows that are played, or of the last ones where they are too many.
     whole() {
-        return this.part(Math.max(0, this.count - MOST_ROWS), this.count);
+        const { end, count } = this;
+        this.end = count;
+        const svg = this.part(Math.max(0, count - MOST_ROWS), count);
+        this.end = end;
+        return svg;
     }
 
     // Draws them to be printed, until `show` draws those that are seen.
@@ -88,57 +94,73 @@ export class Ladder {
 
     part(from, to) {
         const top = from === 0 ? 0 : TOP + ROW * (from - 0.5), end = TOP + ROW * (to - 0.5);
-        const height = to === this.count ? this.heightOf(to) - top : end - top, bottom = top + height - 12;
+        const height = to === this.end ? this.heightOf(to) - top : end - top, bottom = top + height - 12;
         const ends = [this.ground, this.craft].map((x) => shape('line', { class: 'end', x1: x, y1: top + 34, x2: x, y2: bottom }));
         const names = [text(this.ground, top + 24, ['ground']), text(this.craft, top + 24, ['spacecraft'])];
-        const now = shape('rect', { class: 'now', x: 0, y: TOP + ROW * (this.count - 1.5), width: 5, height: ROW });
+        const row = { x: 0, y: TOP + ROW * (this.count - 1.5), height: ROW };
+        const now = [['now row', this.width], ['now', 5]].map(([kind, width]) => shape('rect', { class: kind, ...row, width }));
         const label = `Ladder of ${this.count} lines, which the list of lines has in words`;
         const svg = shape('svg', { role: 'img', class: 'ladder', width: this.width, height, 'aria-label': label,
-            viewBox: `0 ${top} ${this.width} ${height}` }, ...ends, this.count > 0 ? now : '', ...(from === 0 ? names : []));
+            viewBox: `0 ${top} ${this.width} ${height}` });
         svg.style.fontSize = `${this.size}px`;
         svg.style.top = `${top}px`;
-        const steps = this.player.steps.slice(from, to);
-        svg.append(...steps.map((step, k) => this.under(step, TOP + ROW * (from + k), from + k)));
-        svg.append(...this.across(to), ...steps.map((step, k) => this.row(step, from + k)));
+        const steps = this.player.steps.slice(from, to), each = (draw) => steps.map((step, k) => draw(step, from + k));
+        const isNow = this.count > from && this.count <= to;
+        svg.append(...each((step, k) => this.place(step, k)), ...isNow ? now : [], ...ends, ...from === 0 ? names : []);
+        svg.append(...each((step, k) => this.bars(step, k)), ...this.across(to));
+        svg.append(...each((step, k) => this.row(step, k)));
         return svg;
     }
 
-    isGone(sent) {
-        return sent.left !== undefined && sent.left < this.count;
+    // Rows after the last line were played before: they stay, and their arrows.
+    isLater(k) {
+        return k >= this.count;
+    }
+
+    isGone(sent, k) {
+        return sent.left !== undefined && (this.isLater(k) || !this.isLater(sent.left));
     }
 
     // The arrows that begin before a row and end after it.
     across(to) {
-        if (to === this.count || to === 0) return [];
+        if (to === this.end || to === 0) return [];
         const { up, down } = this.player.inTransit(this.player.steps[to - 1]);
-        const ending = [...up.slice(0, MOST_ACROSS), ...down.slice(0, MOST_ACROSS)].filter((it) => this.isGone(it) && it.left >= to);
+        const ending = [...up.slice(0, MOST_ACROSS), ...down.slice(0, MOST_ACROSS)].filter(({ left }) => left >= to);
         return ending.map((it) => this.frame(this.player.steps[it.left], it.left));
     }
 
     row(step, k) {
-        const y = TOP + ROW * k, group = shape('g', {});
-        if (step.sent && !this.isGone(step.sent)) group.append(this.stub(step.sent, y, k));
+        const y = TOP + ROW * k, kind = this.isLater(k) ? 'later' : k === this.count - 1 ? 'chosen' : '';
+        const group = shape('g', { class: kind });
+        if (step.sent && !this.isGone(step.sent, k)) group.append(this.stub(step.sent, y, k));
         if (step.gone) group.append(this.frame(step, k));
         group.append(...this.turns(step, y), this.told(step, y));
         return group;
     }
 
     frame(step, k) {
-        const group = shape('g', { class: 'frame', 'data-gone': k }, ...this.arrow(step, TOP + ROW * k));
+        const group = shape('g', { class: `frame${this.isLater(k) ? ' later' : ''}`, 'data-gone': k });
+        group.append(...this.arrow(step, TOP + ROW * k));
         group.append(shape('title', {}, arrowHint(this.player, step, this.made)));
         return group;
     }
 
-    // What is under a row: a place to click, and a part of each end in the colour of its machine's state, with how much
-    // of the window, of the timer and of the board's buffer is used.
-    under(step, y, k) {
-        const { fop, farm } = step.after, place = { class: 'place', x: 0, y: y - ROW / 2, width: this.width, height: ROW };
-        const end = (x, state) => shape('rect', { class: `band ${state}`, x: x - 4, y, width: 8, height: ROW });
+    // What is under a row: a place to click.
+    place(step, k) {
+        const place = { class: 'place', x: 0, y: TOP + ROW * (k - 0.5), width: this.width, height: ROW };
+        const hint = shape('title', {}, rowHint(this.player, step, this.made));
+        return shape('g', { 'data-step': k }, shape('rect', place, hint));
+    }
+
+    // A part of each end in the colour of its machine's state, with how much of the window, of the timer and of the
+    // board's buffer is used.
+    bars(step, k) {
+        const { fop, farm } = step.after, y = TOP + ROW * k, width = this.isLater(k) ? 4 : 8;
+        const end = (x, state) => shape('rect', { class: `band ${state}`, x: x - width / 2, y, width, height: ROW });
         const part = (x, kind, of, most, down) => shape('rect', { class: `used ${kind}`, x, y: y + down, height: 3,
             width: of === 0 ? 0 : Math.max(3, Math.round(18 * Math.min(1, of / Math.max(most, 1)))) });
         const { ready_slots: slots } = this.player.config;
-        return shape('g', { 'data-step': k }, shape('rect', place, shape('title', {}, rowHint(this.player, step, this.made))),
-            end(this.ground, `fop${fop.state}`), end(this.craft, `farm${farm.state}`),
+        return shape('g', { class: 'bars' }, end(this.ground, `fop${fop.state}`), end(this.craft, `farm${farm.state}`),
             part(this.ground + 5, 'window', fop.sent, fop.window, 17), part(this.ground + 5, 'timer', fop.ticks, fop.timer, 21),
             part(this.craft + 5, 'buffer', farm.ready, slots, 19));
     }

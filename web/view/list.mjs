@@ -1,7 +1,7 @@
 // The lines of a script with their answers, of which those are drawn that are seen, and some around them. How many rows
 // each takes is known before it is drawn: letters are equally wide, and lines are broken here.
 import { make } from './panels.mjs';
-import { placeOf } from './script.mjs';
+import { countOf, placeOf } from './script.mjs';
 
 const ROW = 17, AROUND = 2600, INDENT = 58, LONGEST = 2000, MOST_PRINTED = 2000;
 
@@ -42,7 +42,7 @@ export class List {
     // Shows the lines as they are played up to a number of them.
     show({ rows, lines, steps, at }) {
         if (this.from !== this.box.clientWidth) this.measure();
-        const count = rows.length - (rows.at(-1) === '' && rows.length > 1 ? 1 : 0), tops = new Float64Array(count + 1);
+        const count = countOf(rows), tops = new Float64Array(count + 1);
         const answers = Array(count).fill('');
         for (let k = 0; k < at; k++) answers[lines[k]] = steps[k].answer;
         for (let k = 0; k < count; k++) {

@@ -1,14 +1,22 @@
-// The page: scripts of the simulated link (page.mjs), captures (captures.mjs), and the choosing of managed parameters
-// (choose.mjs). The address says what to begin with: #example=NAME, #script=TEXT or #packed=LETTERS, then &line=N or
-// &play; and octets to read, &octets=HEX&kind=KIND. Captures begin with #capture, and choosing with #choose.
+// The page: scripts of the simulated link (page.mjs), commands that are executed once (commands.mjs), captures
+// (captures.mjs), and the choosing of managed parameters (choose.mjs). The address says what to begin with:
+// #example=NAME, #script=TEXT or #packed=LETTERS, then &line=N or &play; and octets to read, &octets=HEX&kind=KIND.
+// Commands begin with #commands, captures with #capture, and choosing with #choose.
 import { load } from '../sedgechisel.mjs';
 import { Captures } from './captures.mjs';
 import { Choosing } from './choose.mjs';
+import { Commands } from './commands.mjs';
+import { courseWords } from './hints.mjs';
 import { Page } from './page.mjs';
+import { Player } from './player.mjs';
 import { unpacked } from './share.mjs';
+import { use } from '../values.mjs';
 import { KINDS } from './words.mjs';
 
-const LONGEST = 1 << 26, VIEWS = { scripts: ['player', 'scripts'], captures: ['captures'], choosing: ['choosing'] };
+const LONGEST = 1 << 26;
+const VIEWS = {
+    scripts: ['player', 'scripts'], commands: ['commands'], captures: ['captures'], choosing: ['choosing'],
+};
 const at = (name) => document.getElementById(name);
 const askedBy = (hash) => new URLSearchParams(hash.slice(1).replaceAll('+', '%2B'));
 
@@ -28,6 +36,7 @@ async function beginScript(page, words, count) {
         if (isOwn) page.text = words.get('script') ?? await unpacked(words.get('packed'));
         page.choose(isOwn ? '' : words.get('example') ?? first, count);
         if (words.has('line')) page.runTo(Number(words.get('line')));
+        if (words.has('row')) page.showChange(Number(words.get('row')));
     } catch (error) {
         page.choose(first, 0);
         page.complain(error.message);
@@ -38,18 +47,30 @@ async function beginScript(page, words, count) {
 }
 
 // Shows what the address says.
-async function begin({ page, captures, choosing }, hash) {
+async function begin({ page, commands, captures, choosing }, hash) {
     page.keepAddress();
-    const words = askedBy(hash), view = ['capture', 'choose'].find((it) => words.has(it));
-    turnTo({ capture: 'captures', choose: 'choosing' }[view] ?? 'scripts');
-    if (view === 'capture') captures.beginWith(words);
+    const words = askedBy(hash), view = ['commands', 'capture', 'choose'].find((it) => words.has(it));
+    turnTo({ commands: 'commands', capture: 'captures', choose: 'choosing' }[view] ?? 'scripts');
+    if (view === 'commands') commands.beginWith(words);
+    else if (view === 'capture') captures.beginWith(words);
     else if (view === 'choose') choosing.beginWith(words);
     else await beginScript(page, words, hash.length < 2 || words.has('play') ? Infinity : 0);
 }
 
 const isField = ({ tagName }) => /^(INPUT|TEXTAREA|SELECT)$/.test(tagName);
 
-// Binds the buttons of the player, and its keys where no field has the focus.
+// Binds buttons of a view, and keys where no field has the focus.
+function bindActs(view, acts, keys) {
+    const does = (name) => at(name).getAttribute('aria-disabled') !== 'true' && acts[name]();
+    for (const name of Object.keys(acts)) at(name).addEventListener('click', () => does(name));
+    document.addEventListener('keydown', (event) => {
+        const isPlain = !event.altKey && !event.ctrlKey && !event.metaKey && !event.shiftKey, name = keys[event.key];
+        if (!isPlain || name === undefined || isField(event.target) || at(view).hidden) return;
+        event.preventDefault();
+        does(name);
+    });
+}
+
 function bindPlayer(page) {
     const moves = { first: -Infinity, back: -1, step: 1, end: Infinity };
     const keys = { Home: 'first', ArrowLeft: 'back', ArrowRight: 'step', End: 'end', l: 'swap', z: 'undo' };
@@ -59,23 +80,18 @@ function bindPlayer(page) {
         'save-png': () => page.savePicture('png'),
     };
     for (const [name, by] of Object.entries(moves)) acts[name] = () => page.move(page.player.at + by);
-    for (const [name, act] of Object.entries(acts)) at(name).addEventListener('click', act);
-    document.addEventListener('keydown', (event) => {
-        const isPlain = !event.altKey && !event.ctrlKey && !event.metaKey && !event.shiftKey, name = keys[event.key];
-        if (!isPlain || name === undefined || isField(event.target) || at('scripts').hidden) return;
-        event.preventDefault();
-        acts[name]();
-    });
+    bindActs('scripts', acts, keys);
     at('to').addEventListener('submit', (event) => {
         event.preventDefault();
         page.runTo(Number(at('line').value));
     });
     at('lines').addEventListener('click', ({ target }) => page.runTo(Number(target.closest('li')?.dataset.line)));
     at('ladder').addEventListener('click', ({ target }) => page.click(target));
+    at('fop').addEventListener('click', ({ target }) => target.dataset.goes && page.runTo(Number(target.dataset.goes)));
 }
 
 function bindScript(page) {
-    at('example').addEventListener('change', () => page.choose(at('example').value, 0));
+    at('example').addEventListener('change', () => page.choose(at('example').value, Infinity));
     at('text').addEventListener('input', () => page.edit());
     at('events').addEventListener('click', ({ target }) => target.dataset.line && page.insert(target.dataset.line));
     for (const name of ['kind', 'pasted']) at(name).addEventListener('input', () => page.decode());
@@ -113,11 +129,19 @@ function bindDrops(page, captures) {
 
 // Binds the buttons of the views; and a file that is dropped anywhere is a script by its name, or a capture.
 function bindViews(views) {
-    const { page, captures, choosing } = views;
+    const { page, commands, captures, choosing } = views;
     at('to-scripts').addEventListener('click', () => {
         turnTo('scripts');
         if (page.player.script === undefined) beginScript(page, new URLSearchParams(), Infinity);
         page.resized();
+    });
+    at('to-commands').addEventListener('click', () => {
+        page.pause();
+        turnTo('commands');
+        commands.begin();
+    });
+    bindActs('commands', commands.acts(), {
+        Home: 'run-first', ArrowLeft: 'run-back', ArrowRight: 'run-step', End: 'run-end', r: 'restart', t: 'tear',
     });
     at('to-captures').addEventListener('click', () => {
         page.pause();
@@ -132,6 +156,18 @@ function bindViews(views) {
     bindDrops(page, captures);
 }
 
+// Adds to the names of the examples what both machines do there; each is played for this.
+async function describe(calls, examples) {
+    for (const it of [...at('example').options].filter(({ value }) => value in examples)) {
+        await new Promise((end) => { setTimeout(end); });
+        const player = new Player(calls);
+        player.load(examples[it.value]);
+        player.goTo(Infinity);
+        it.text = `${it.text}: ${courseWords(player)}`;
+        player.link.close();
+    }
+}
+
 async function start() {
     const made = JSON.parse(at('made').textContent), option = (value, text) => new Option(text, value);
     const octets = Uint8Array.from(atob(at('module').textContent), (it) => it.charCodeAt(0));
@@ -139,12 +175,15 @@ async function start() {
     const examples = Object.keys(made.examples).map((it) => option(it, it.replaceAll('_', ' ')));
     at('example').append(...examples, option('', 'a script of your own'));
     at('kind').append(...Object.entries(KINDS).map(([kind, [name]]) => option(kind, name)));
-    const views = { page, captures: new Captures(made, calls), choosing: new Choosing(calls) };
+    use(calls); // (for the classes)
+    const captures = new Captures(made, calls), choosing = new Choosing(calls), commands = new Commands(calls);
+    const views = { page, captures, choosing, commands };
     await begin(views, location.hash);
     at('version').textContent = calls.sedge_version();
     bindPlayer(page);
     bindScript(page);
     bindViews(views);
+    await describe(calls, made.examples);
 }
 
 start().catch((error) => {

@@ -7,10 +7,19 @@ import { lostInTransit, swapped } from './plan.mjs';
 import { Player } from './player.mjs';
 import { promisesOf } from './promises.mjs';
 import { Runner } from './runner.mjs';
-import { placeOf } from './script.mjs';
+import { countOf, placeOf } from './script.mjs';
 import { pictureOf, pngOf, save, scriptPart } from './share.mjs';
-import { KINDS } from './words.mjs';
+import { KINDS, frameName, plural, reportName } from './words.mjs';
 
+const SWAPS = 'The frame of this line is lost, or arrives, instead; the rest is planned again (L)';
+const SWAPS_NONE = 'No frame arrives or is lost on this line: go to a line with up or down, or click an arrow';
+const FROM_DISK = 'The link opens only where this file is at the same path.';
+// What to do after a refusal.
+const ADVICE = {
+    NothingInTransit: 'nothing is in transit WAY. Go to a line where a frame is, or click its arrow',
+    NotOpen: 'no session is open. Begin one by a directive, such as init none',
+    NotDetectable: 'the receiver would accept these octets. Change one of them',
+};
 const PACE = 700, LONG = 90, LONGEST_EDITED = 200000, TURN = 100;
 const at = (name) => document.getElementById(name);
 const cut = (text, most = LONG) => (text.length > most ? `${text.slice(0, most)}..` : text);
@@ -53,7 +62,7 @@ export class Page {
         const { script } = this.player;
         try {
             this.player.load(text);
-            at('line').max = this.player.rows.length;
+            at('line').max = countOf(this.player.rows);
         } catch (error) {
             const [, number, line = ''] = error.message.match(/^line (\d+) is unreadable: ([^]*)$/) ?? [];
             const what = number === undefined ? error.message : `line ${number} is unreadable: ${cut(line, 30)}`;
@@ -157,13 +166,22 @@ export class Page {
 
     tell(count, last) {
         const { length } = this.player.events, line = this.player.lines[count - 1] + 1;
-        at('last').textContent = count === 0 ? `Nothing is played of ${length} lines.`
-            : `Line ${line}, ${count} of ${length}: ${cut(last.line)} \u2014 ${cut(last.answer)}`;
-        const [way, what] = last.line?.split(' ') ?? [], isFrame = way === 'up' || way === 'down';
+        const { said } = this, isSaid = said?.script === this.player.script && said.at === count;
+        const before = isSaid ? `${said.words} ` : '', words = `${cut(last.line ?? '')} \u2014 ${cut(last.answer ?? '')}`;
+        const where = count === 0 ? `Nothing is played of ${length} lines.` : `Line ${line}, ${count} of ${length}: ${words}`;
+        at('last').textContent = before + where;
+        const isLost = last.line?.endsWith('lose'), isFrame = last.gone !== undefined;
         const isOver = { first: count === 0, back: count === 0, step: count === length, end: count === length, swap: !isFrame };
         for (const [name, is] of Object.entries(isOver)) at(name).setAttribute('aria-disabled', is);
-        at('swap').textContent = what === 'lose' ? 'Deliver it' : 'Lose it';
-        if (count > 0) at('line').value = line;
+        at('swap').textContent = isFrame && isLost ? 'Deliver it' : 'Lose it';
+        at('swap').title = isFrame ? SWAPS : SWAPS_NONE;
+        at('line').value = count > 0 ? line : 1;
+    }
+
+    // Says something before the words on a line, while the script and the number of lines played are these.
+    remark(words, count = this.player.at) {
+        this.said = { script: this.player.script, at: count, words };
+        if (count === this.player.at) this.tell(count, this.player.last);
     }
 
     play() {
@@ -192,7 +210,14 @@ export class Page {
         const rows = player.text === '' ? [] : player.text.replace(/\n$/, '').split('\n');
         rows.splice(count > 0 ? lines[count - 1] + 1 : lines[0] ?? rows.length, 0, line);
         if (eventOf(line) === null) this.refuse(line);
-        else if (this.replace(`${rows.join('\n')}\n`, '', count + 1) && /^(submit|bypass)/.test(line)) this.nextPacket();
+        else if (this.replace(`${rows.join('\n')}\n`, '', count + 1)) this.advise(line);
+    }
+
+    // What to do after the line of a button was refused; after a submission, the next packet.
+    advise(line) {
+        const [, fault] = this.player.last.answer.match(/^refused \d+ (\w+)/) ?? [], advice = ADVICE[fault];
+        if (advice) this.remark(`Refused: ${advice.replace('WAY', line.split(' ')[0])}.`);
+        if (/^(submit|bypass)/.test(line)) this.nextPacket();
     }
 
     // A line that is not put into the script, since it is unreadable.
@@ -204,18 +229,32 @@ export class Page {
     // The frame of a step meets the other end, and the rest is planned again; its row stays in sight.
     swap(k) {
         if (this.broken !== undefined) return;
-        const text = swapped(this.player, k);
-        if (text !== null) this.plan(text, k);
+        const { gone, line } = this.player.steps[k] ?? {};
+        if (gone) this.plan(swapped(this.player, k), k, gone, line.endsWith('lose') ? 'delivered' : 'lost');
     }
 
     // The frame in transit that a step sent is lost.
     lose(k) {
-        if (this.broken === undefined) this.plan(lostInTransit(this.player, k), k);
+        const { player } = this;
+        if (this.broken !== undefined) return;
+        if (k >= player.at) player.goTo(player.steps.length);
+        this.plan(lostInTransit(player, k), k, player.steps[k].sent, 'lost');
     }
 
-    plan(text, row) {
-        this.replace(text, '', Infinity);
-        this.ladder.show(this.player, row);
+    // Takes a script in which a frame met another end by hand, and says what followed.
+    plan(text, row, { word, frame }, end) {
+        const { player } = this, { length } = player.events, name = word ? reportName(word) : frameName(frame);
+        const { scrollTop } = at('ladder');
+        if (!this.replace(text, '', Infinity)) return;
+        this.changed = { script: player.script, row };
+        this.ladder.show(player, row, scrollTop);
+        const again = player.steps.slice(row + 1).map(({ sent }) => sent).filter((it) => it?.again !== undefined);
+        const names = [...new Set(again.map((it) => frameName(it.frame)))], more = player.events.length - length;
+        const words = [
+            ...more === 0 ? [] : [`${plural(Math.abs(more), 'line')} ${more > 0 ? 'added' : 'fewer'}`],
+            ...names.length === 0 ? [] : [`${cut(names.join(', '))} sent again`],
+        ];
+        this.remark(`${name} ${end} by hand${words.length > 0 ? `: ${words.join('; ')}` : ''}.`, player.events.length);
     }
 
     // A click on an arrow, on one in transit, or on a row of the ladder.
@@ -230,8 +269,18 @@ export class Page {
     async address() {
         const { player } = this, name = at('example').value, line = player.at > 0 ? `&line=${player.lines[player.at - 1] + 1}` : '';
         if (this.part?.text !== player.text) this.part = { text: player.text, is: name === '' && scriptPart(player.text) };
+        const { changed } = this, isChanged = changed?.script === player.script;
+        const row = isChanged ? `&row=${player.lines[changed.row] + 1}` : '';
         const part = name === '' ? await (this.part.is || scriptPart(player.text)) : `example=${name}`;
-        return part === null ? null : `#${part}${line}`;
+        return part === null ? null : `#${part}${line}${row}`;
+    }
+
+    // Shows the ladder at a line that was changed by hand, as the address has it.
+    showChange(line) {
+        const { player } = this, row = Math.min(placeOf(player.lines, line - 1), player.at - 1);
+        if (this.broken !== undefined || !(row >= 0)) return;
+        this.changed = { script: player.script, row };
+        this.ladder.show(player, row);
     }
 
     // The address bar has it, a little later, since browsers bound how often it changes.
@@ -258,6 +307,7 @@ export class Page {
             said = await navigator.clipboard?.writeText(location.href).then(() => 'Copied', () => null) ?? 'In the address bar';
         }
         at('link').textContent = said;
+        if (address !== null && location.protocol === 'file:') this.remark(FROM_DISK);
         setTimeout(() => { at('link').textContent = 'Copy link'; }, 2500);
     }
 

@@ -33,7 +33,7 @@ export function make(name, kind, ...within) {
     return it;
 }
 
-function pairs(kind, rows) {
+export function pairs(kind, rows) {
     const pair = ([name, value, own = '']) => make('div', own, make('dt', '', name), make('dd', '', value));
     return make('dl', kind, rows.map(pair));
 }
@@ -55,12 +55,23 @@ function worded(title, words) {
     return make('p', '', make('b', 'event', title), ` ${words}`);
 }
 
+// Words in which each line that is named is a button that goes there.
+function linked(words) {
+    return words.split(/(\bline \d+)/).map((it, k) => {
+        if (k % 2 === 0) return it;
+        const button = make('button', 'link', it);
+        button.dataset.goes = it.slice(5);
+        button.title = `Go to ${it}`;
+        return button;
+    });
+}
+
 // The event of FOP-1 and the rule of the profile, with what led to them; where there is no rule, what the profile says
 // of the event.
 function fopRow(row, causes, { fop, rules }) {
     const [book, here] = fop[row?.event] ?? [], rule = rules[row?.part]?.[row.rule - 1];
     if (!row) return make('p', 'none', 'No event of the sender.');
-    return make('div', 'row', causes.map((it) => make('p', 'cause', it)), book ? worded(row.event, book) : '',
+    return make('div', 'row', causes.map((it) => make('p', 'cause', linked(it))), book ? worded(row.event, book) : '',
         rule ? worded(`Rule ${row.rule} of ${row.part}`, rule) : here ? worded('Here', here) : '');
 }
 

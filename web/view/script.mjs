@@ -5,6 +5,11 @@ import { eventOf, scriptOf } from '../link.mjs';
 const isSkipped = (row) => row === '' || row.startsWith('#');
 const isConfig = (row) => row.startsWith('config ');
 
+// How many lines rows are: the last one is none if it is empty, after the last end of a line.
+export function countOf(rows) {
+    return rows.length - (rows.at(-1) === '' && rows.length > 1 ? 1 : 0);
+}
+
 // The place of the first number that is not below another, in numbers that rise.
 export function placeOf(numbers, least) {
     let from = 0, to = numbers.length;

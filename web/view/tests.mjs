@@ -5,7 +5,11 @@ import assert from 'node:assert/strict';
 import { readFileSync } from 'node:fs';
 import { load, numbers as n } from '../sedgechisel.mjs';
 import { Link, octetsOf } from '../link.mjs';
+import { use } from '../values.mjs';
+import { COMMANDS, GUIDE, Run, dueWords, recordAt } from './board.mjs';
+import { wholeFrames } from './captures.mjs';
 import { choices, expected } from './choosing.mjs';
+import { againWords, courseWords } from './hints.mjs';
 import { swapped } from './plan.mjs';
 import { Player } from './player.mjs';
 import { promisesOf } from './promises.mjs';
@@ -239,6 +243,58 @@ function uncleanSession() {
     player.link.close();
 }
 
+// What is so of each run of a board: commands are executed in order and at most once, each status states what is so, no
+// record is lost, and at last each command was executed or passed over.
+function checkRun(run, said) {
+    let before;
+    for (const { places, heard, ran, history, status } of run.steps) {
+        ran.forEach(({ number }, k) => assert.ok(k === 0 || number > ran[k - 1].number, said));
+        assert.ok(places.some((it) => recordAt(calls, it) !== null), said);
+        assert.notEqual(status.kind, 'LOST', said);
+        assert.equal(heard.history, history, said);
+        for (let number = 1; number <= heard.last; number++) {
+            const isKnown = (heard.known >> BigInt(heard.last - number) & 1n) === 1n;
+            assert.ok(!isKnown || ran.some((it) => it.number === number && it.isWhole), `${said}: ${number}`);
+        }
+        assert.ok(before === undefined || heard.last >= before.last, said);
+        before = heard;
+    }
+    const { heard, due } = run.steps.at(-1);
+    assert.deepEqual([heard.kind, heard.last, due.kind], ['SAYS', COMMANDS, 'NOTHING'], said);
+}
+
+// The guided run of commands that are executed once: 2 is executed in part, 3 after a torn write, and 4 never; and runs
+// in which the board restarts, or a write is torn, at each step or at several.
+function restarts() {
+    use(calls);
+    const { steps } = new Run(calls, GUIDE), { ran, heard, places } = steps.at(-1);
+    checkRun({ steps }, 'the guided run');
+    assert.deepEqual(ran, [1, 2, 3, 5].map((number) => ({ number, isWhole: number !== 2 })));
+    assert.deepEqual([heard.boot, heard.known, steps.length], [4, 0b10101n, 42]);
+    assert.deepEqual(recordAt(calls, places[0]), { boot: 4, last: 5, known: 0b10101n, history: heard.history, begun: 0 });
+    for (const { at, kind, octets, number } of GUIDE.filter((it) => it.kind)) {
+        const wanted = { restart: 'restarts in the middle of command 2', tear: `torn after ${octets} octets`,
+            repeat: `Command ${number} arrives again. It is dropped: 6 Behind.` }[kind];
+        assert.ok(steps[at].said.includes(wanted), steps[at].said);
+    }
+    assert.deepEqual([3, 11, 12].map((k) => dueWords(steps[k].due)),
+        ['waits for a command', 'writes the second place', 'executes command 2']);
+    assert.equal(recordAt(calls, steps[19].places[0]), null);
+    for (let at = 1; at < 34; at++) {
+        checkRun(new Run(calls, [{ at, kind: 'restart' }]), `a restart at step ${at}`);
+        for (const octets of [0, 10, 24, 25, 49, 50]) {
+            checkRun(new Run(calls, [{ at, kind: 'tear', octets }]), `torn after ${octets} octets at step ${at}`);
+        }
+    }
+    let state = 1;
+    const chance = (most) => { state = Math.imul(state, 1103515245) + 12345 >>> 0; return (state >>> 16) % most; };
+    for (let k = 0; k < 100; k++) {
+        const changes = Array.from({ length: 16 }, () => (
+            { at: 1 + chance(80), kind: ['restart', 'tear', 'tear', 'repeat'][chance(4)], octets: chance(51), number: 1 }));
+        checkRun(new Run(calls, changes), JSON.stringify(changes));
+    }
+}
+
 function read(kind, digits) {
     const { fault, name, fields, within } = KINDS[kind][1](calls, octetsOf(digits));
     return fault ?? { name, ...Object.fromEntries(fields), within: within.map((it) => it.fault ?? it.name) };
@@ -262,7 +318,56 @@ function reads() {
     assert.equal(read('packet', '-'), '1 Truncated');
 }
 
+// The whole frames of a sample: one that its end cuts off is not among them, nor what has no frame's length.
+function whole() {
+    const frame = octetsOf('0001080E00C41005C0000000AAE75D'), tiny = octetsOf('00010802');
+    const count = (...parts) => wholeFrames(Uint8Array.from(parts.flatMap((it) => [...it])));
+    assert.deepEqual([count(), count(frame), count(frame, frame)], [0, 15, 30]);
+    for (const cut of [1, 4, 5, 14]) assert.equal(count(frame, frame, frame.subarray(0, cut)), 30);
+    assert.equal(count(frame, tiny, frame), 15);
+}
+
+// What the menu of the page says of an example.
+function courses() {
+    const wanted = {
+        lost_frame: 'sender to S2', full_buffer: 'sender to S3, S2; receiver to Wait', lost_clcw: 'sender stays in S1',
+        lockout: 'receiver to Lockout; alert Lockout', alert: 'alert Timer',
+    };
+    for (const [name, words] of Object.entries(wanted)) {
+        const player = new Player(calls);
+        player.load(readFileSync(`examples/${name}.script`, 'latin1'));
+        player.goTo(Infinity);
+        assert.equal(courseWords(player), words);
+        player.link.close();
+    }
+}
+
+// Why frames are sent again, with what led to that: a loss, a frame that arrived ahead or found no buffer; or a loss for
+// which the timer ran out.
+function causes() {
+    const lost = ['config timer 2', 'init none', 'submit 4 1005C0000000AA', 'send', 'up lose', 'tick', 'tick', 'send'];
+    const late = [...lost.slice(0, 4), 'up deliver', 'report', 'down lose', 'tick', 'tick', 'send'];
+    const examples = ['lost_frame', 'full_buffer'].map((it) => readFileSync(`examples/${it}.script`, 'latin1'));
+    const wanted = [
+        'line 20: a CLCW arrived with value 1, retransmit. AD 1 was lost on line 15, and AD 2 arrived ahead on line 16.',
+        'line 21: a CLCW arrived with value 1, retransmit. AD 1 found no free buffer on line 11.',
+        'line 7: the timer ran out. AD 0 was lost on line 5.', 'line 9: the timer ran out.',
+    ];
+    [...examples, lost.join('\n'), late.join('\n')].forEach((text, k) => {
+        const player = new Player(calls);
+        player.load(text);
+        player.goTo(Infinity);
+        const { sent } = player.steps.find((it) => it.sent?.again !== undefined);
+        assert.deepEqual(againWords(player, sent), [`Sent again because of ${wanted[k]}`]);
+        player.link.close();
+    });
+}
+
 reads();
+restarts();
+whole();
+courses();
+causes();
 uncleanSession();
 formulas();
 for (const file of files) plays(file);

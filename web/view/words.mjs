@@ -26,8 +26,13 @@ export function frameWords(calls, { frame, data }) {
     return `MAP ${frame.map}: ${what}, ${plural(data.length, 'octet')}`;
 }
 
+// A CLCW as its value and its flags; and as the ladder has it: 'CLCW: value 1, retransmit'.
+export function valueWords(word) {
+    return [`value ${word.value}`, ...flagsOf(word)].join(', ');
+}
+
 export function reportName(word) {
-    return [`value ${word.value}`, ...flagsOf(word)].join(' ');
+    return `CLCW: ${valueWords(word)}`;
 }
 
 export function reportWords(word) {
