@@ -1,5 +1,5 @@
 /* Times calls of both libraries, for bench/portable, which links it with the proved archives and with the portable C.
- * It prints a line for each row: its name, the processor's nanoseconds of a call, and a sum of what was answered, which
+ * It prints a line for each row: its name, the processor time of a call in nanoseconds, and a sum of the answers, which
  * is the same for each build. */
 #define _POSIX_C_SOURCE 199309L
 #include <sedgechisel_nodes.h>

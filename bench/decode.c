@@ -1,6 +1,6 @@
-/* Measures sedge_tc_decode beside the same in plain C, each in turn, on frames of 1,024 and of 33 octets with their check
- * and without. Prints a row for each, and fails where the two do not answer the same, or where the library takes more
- * than 1.3 times as long on 1,024 octets with the check. */
+/* Compares the speed of sedge_tc_decode with plain C, each in turn, on frames of 1,024 and of 33 octets with and
+ * without FECF. Prints a row for each, and fails if the two do not answer the same, or if the library takes more than
+ * 1.3 times as long on 1,024 octets with the FECF. */
 #define _POSIX_C_SOURCE 199309L
 #include "plain.h"
 #include <stdio.h>

@@ -1,5 +1,6 @@
-"""Inputs for the measurements, from a generator with a fixed seed: frames of one length, frames of mixed lengths, packets of
-mixed lengths, and telemetry frames of 1,115 octets that carry such packets; and what a running process holds."""
+"""Makes inputs for the measurements, from a generator with a fixed seed: frames of one length, frames of mixed lengths,
+packets of mixed lengths, and telemetry frames of 1,115 octets that carry such packets. It also measures the memory of a
+running process."""
 import binascii
 import random
 

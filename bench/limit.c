@@ -1,8 +1,9 @@
-/* The limit of the machine: the lines of tctool's tc, farm, map, check, packets, tm and clcw, by whatever is fastest in plain C.
+/* The limit of the machine: the lines of tctool's tc, farm, map, check, packets, tm and clcw, by the fastest means in
+ * plain C.
  *
- * The file is mapped and no record is copied. Hexadecimal digits go by pairs from a table, the check takes eight octets a
- * turn, the number of a record is kept as digits, and there is one buffer. It is what tctool is measured beside (bench/run),
- * and no model of style: cc -O3 -o limit limit.c. Words and status are those of tctool. */
+ * The file is mapped and no record is copied. Hexadecimal digits are copied in pairs from a table, the FECF takes eight
+ * octets in each iteration, the number of a record is kept as digits, and there is one buffer. bench/run compares
+ * tctool with it; it is not a model of style: cc -O3 -o limit limit.c. Arguments and status are those of tctool. */
 #define _GNU_SOURCE
 #include <fcntl.h>
 #include <stdint.h>

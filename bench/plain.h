@@ -1,5 +1,5 @@
-/* What bench/library measures in plain C: the reading of frames, the receiver and the sender. The last two are there with the
- * test of their fields too (tested_). */
+/* What bench/library measures in plain C: the decoding of frames, the receiver and the sender. The last two also exist
+ * with the test of their fields (tested_). */
 #ifndef PLAIN_H
 #define PLAIN_H
 

@@ -1,5 +1,5 @@
-/* A telecommand frame with its check, read in plain C (CCSDS 232.0-B-4, 4.1), over the structs of the library. The check
- * takes eight octets a turn by eight tables ("slicing by eight"). */
+/* Decodes a telecommand frame with its FECF in plain C (CCSDS 232.0-B-4, 4.1), over the structs of the library. The
+ * FECF takes eight octets in each iteration by eight tables ("slicing by eight"). */
 #include "plain.h"
 #include <string.h>
 

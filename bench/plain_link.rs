@@ -1,7 +1,7 @@
 // The yardstick of bench/link: both nodes written by hand in plain Rust, and the same 10^6 packets over them.
-// It refuses the packets and frames that the crate refuses. Left out is what the run has no use for: several
-// packets in a segment; Type-B frames, which are read and counted and not followed; the sender's directives,
-// its states S4 and S5 and its clock; packets in telemetry frames, and the count of missing ones. Built by
+// It refuses the packets and frames that the crate refuses. It leaves out what the run does not use: several
+// packets in a segment; Type-B frames, which are decoded and counted but not obeyed; the sender's directives,
+// its states S4 and S5 and its clock; packets in telemetry frames, and the count of missing frames. Built by
 // `rustc -O`.
 
 #![allow(dead_code)]

@@ -1,5 +1,5 @@
-/* The state table of FARM-1 in plain C (CCSDS 232.1-B-2, table 6-1), over the struct of the library. With TESTED each call
- * tests first, as the header says, that the fields are those of a receiver; without, it takes them as they are. */
+/* The state table of FARM-1 in plain C (CCSDS 232.1-B-2, table 6-1), over the struct of the library. With TESTED each
+ * call first tests, as the header states, that the fields are those of a receiver; without, it does not test them. */
 #include "plain.h"
 
 #ifdef TESTED

@@ -1,5 +1,6 @@
-/* The rules of FOP-1 in plain C (docs/PROFILE.md), over the struct of the library, for a sender in S1 to S6. With TESTED each
- * call tests first, as the header says, that the fields are those of a sender; without, it takes them as they are. */
+/* The rules of FOP-1 in plain C (docs/PROFILE.md), over the struct of the library, for a sender in S1 to S6. With
+ * TESTED each call first tests, as the header states, that the fields are those of a sender; without, it does not test
+ * them. */
 #include "plain.h"
 
 #ifdef TESTED

@@ -1,7 +1,7 @@
-/* Measures sedge_farm_ad beside the same state table in plain C, with the test of the fields that the header promises and
- * without it, each in turn: 10^7 calls with numbers in sequence, and 10^7 with random ones, after which a locked receiver
- * is unlocked. Prints a row for each, and fails where they do not answer the same, or where the library takes more than
- * 1.3 times as long as plain C that tests. */
+/* Compares the speed of sedge_farm_ad with the same state table in plain C, with and without the test of the fields
+ * that the header promises, each in turn: 10^7 calls with numbers in sequence, and 10^7 with random numbers, after
+ * which a receiver in Lockout is unlocked. Prints a row for each, and fails if they do not answer the same, or if the
+ * library takes more than 1.3 times as long as plain C that tests. */
 #define _POSIX_C_SOURCE 199309L
 #include "plain.h"
 #include <stdint.h>

@@ -1,7 +1,8 @@
-/* Measures the calls of sedge_fop beside the same rules in plain C, with the test of the fields that the header promises and
- * without it, each in turn: 4 * 10^6 rounds of submit, next, and a tick or a report. In the first row each report
- * acknowledges all that was sent; in the second some ask for units again, and some come late. Prints a row for each, and
- * fails where they do not answer the same, or where the library takes more than 1.3 times as long as plain C that tests. */
+/* Compares the speed of the calls of sedge_fop with the same rules in plain C, with and without the test of the fields
+ * that the header promises, each in turn: 4 * 10^6 rounds of submit, next, and a tick or a CLCW. In the first row each
+ * CLCW acknowledges all that was sent; in the second some request retransmission, and some are delayed. Prints a row
+ * for each, and fails if they do not answer the same, or if the library takes more than 1.3 times as long as plain C
+ * that tests. */
 #define _POSIX_C_SOURCE 199309L
 #include "plain.h"
 #include <stdint.h>

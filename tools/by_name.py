@@ -1,6 +1,7 @@
-"""What the bindings have by the names of directives, events and managed parameters, for tools/bindings: for C the calls
-that are one export with values of its own, as `static inline` in the header in place of those that stand there; for
-Python and Rust the methods of the directives, with what the header says of each, and the configuration of a node."""
+"""Makes the parts of the bindings that follow the names of directives, events and managed parameters, for
+tools/bindings. For C, these are the `static inline` calls that call one export with fixed values; they replace those in
+the header. For Python and Rust, they are the methods of the directives, with the header's comment on each, and the
+configuration of a node."""
 import re
 import textwrap
 import typing

@@ -1,5 +1,5 @@
-"""The statements of a function of C, by loops and conditions, with ways to labels where these do not say it: for
-tools/portable_c. A statement that holds no other is its text."""
+"""Makes the statements of a C function from loops and conditions, and from jumps to labels where these do not suffice,
+for tools/portable_c. A statement that contains no other is its text."""
 import re
 
 

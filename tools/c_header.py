@@ -1,5 +1,5 @@
-"""The structs and the calls of a header for C, with the layout that wasm64 gives the structs, or another processor with
-addresses of so many octets: for tools/portable_c, c/tools/random_calls and web/bindings."""
+"""Reads the structs and the calls of a C header, with the struct layout of wasm64 or of another processor, given the
+octets of its addresses, for tools/portable_c, c/tools/random_calls and web/bindings."""
 import os
 import re
 import typing

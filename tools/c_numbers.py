@@ -1,4 +1,4 @@
-"""Writes the names that the headers have for numbers into the statements of a call: for tools/portable_c."""
+"""Replaces numbers in the statements of a call by their names in the headers, for tools/portable_c."""
 import functools
 import re
 

@@ -1,11 +1,11 @@
-"""Writes the rules of docs/PROFILE.md next to the branches of FOP-1 and FARM-1 in portable C: for tools/portable_c.
-`tools/c_rules.py --check FILE` finds the rules again, and looks that the comments of the file are these.
+"""Writes the rules of docs/PROFILE.md next to the branches of FOP-1 and FARM-1 in portable C, for tools/portable_c.
+`tools/c_rules.py --check FILE` finds the rules again, and checks that the comments of the file match them.
 
-A branch has the rules of the rows of tables/fop.csv, or the events of tables/farm.csv, whose calls take it. They are
-found by running: each branch of the calls below is marked in a copy of the library, and the programs that write these
-tables (c/tools/fop_table.c, farm_table.c) note which marks each row passes, over all rules in each state with many
-numbers. A branch that only refuses a damaged struct has no comment, nor has one that takes the same rules as the branch
-around it."""
+A branch is labelled with the rules of the rows of tables/fop.csv, or the events of tables/farm.csv, whose calls take
+it. A run finds them: each branch of the calls below is marked in a copy of the library, and the programs that write
+these tables (c/tools/fop_table.c, farm_table.c) record which marks each row passes, over all rules in each state with
+many numbers. A branch has no comment if it only refuses a damaged struct, or takes the same rules as the branch around
+it."""
 import os
 import re
 import subprocess
@@ -43,7 +43,7 @@ BLANK = "\xa0"
 
 
 class Line:
-    """A statement, on one line or several: its text on one, and the mark of the branch that it begins, if it begins one;
+    """A statement, on one line or several: its text on one, and the mark of the branch that it begins, if any;
     `after` is the mark of what follows an `if`, at the first statement that does."""
 
     def __init__(self, rows):

@@ -1,9 +1,7 @@
-"""Gives each value of a function of C a variable of its own, and leaves out what is written and never read: for
-tools/portable_c.
+"""Gives each value of a C function its own variable, and omits what is written and never read, for tools/portable_c.
 
-LLVM keeps values that have nothing to do with each other in one variable of the machine, or in a parameter. Here the
-writes of a variable that can reach the same read share a name, and no others do. A parameter is never written. The
-statements are those of tools/c_flow.py."""
+LLVM keeps unrelated values in one variable of the machine, or in a parameter. Here two writes of a variable share a
+name only if they can reach the same read. A parameter is never written. The statements are those of tools/c_flow.py."""
 import itertools
 import re
 

@@ -1,4 +1,4 @@
-"""The declarations of the package for JavaScript as pages of Sphinx, which has a domain for JavaScript: for
+"""Writes the declarations of the package for JavaScript as pages for Sphinx, which has a domain for JavaScript, for
 tools/reference. `pages()` returns a page for each module that web/package.json exports, by its name. Each name that the
 package exports is on one of them."""
 import json
@@ -9,7 +9,7 @@ from items import text_of
 from made import Refused
 
 # The modules that make up what the package exports by its own name; those of the other names are one each.
-CLASSES = ("nodes", "simulated", "values", "meanings")
+CLASSES = ("nodes", "simulated", "executor", "values", "meanings")
 STATEMENT = re.compile(r"(?:export |declare )*(?P<kind>class|interface|type|function|const) (?P<name>\w+)")
 MEMBER = re.compile(r"(?:static |readonly |get |set )*(?P<name>[\w$]+|\[[^]]*\])\??(?P<call>(?:<[^>]*>)?\()?")
 HIDDEN = re.compile(r"#|protected |set |(?:import|export) ")

@@ -1,9 +1,9 @@
 """Reads files of entries: rows (rows/README.md), and the wrong bodies and controls of `wrong_bodies/` and `controls/`.
 
-An entry begins with `## NAME: ` (of a wrong body `## CRATE/NAME: `) and a sentence, which goes on to the next line
-where it is long. Lines of its own follow, and an empty line stands before the next entry. An edit has lines `file:`,
-`old:` (a text that is in that file once) and `new:`, as in a file of `must-fail/`. `python3 tools/entries.py FOLDER
-[CRATE [NAME ..] ..]` writes wrong bodies as such files: for tools/wrong_bodies."""
+An entry begins with `## NAME: ` (for a wrong body `## CRATE/NAME: `) and a sentence, which may continue on the next
+line. The entry's other lines follow, and then an empty line before the next entry. An edit has lines `file:`, `old:` (a
+text that occurs in that file once) and `new:`, as in a file of `must-fail/`. `python3 tools/entries.py FOLDER [CRATE
+[NAME ..] ..]` writes wrong bodies as such files, for tools/wrong_bodies."""
 import glob
 import os
 import re

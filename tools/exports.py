@@ -1,4 +1,4 @@
-"""The calls that the libraries for C export, and the structs that these take, read from the sources: for
+"""Reads from the sources the calls that the libraries for C export, and the structs that these take, for
 tools/bindings."""
 import functools
 import glob

@@ -1,4 +1,4 @@
-"""The public items of the libraries, read from their sources: for tools/calls."""
+"""Reads the public items of the libraries from their sources, for tools/calls."""
 import glob
 import os
 import re

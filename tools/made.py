@@ -1,8 +1,8 @@
-"""What tools that make files share: the managed parameters as nodes/specs/Parameters.antt has them, and what is done
-with a file that is made."""
+"""Helpers of the tools that make files: the managed parameters of nodes/specs/Parameters.antt, and how a made file is
+written or compared."""
+import argparse
 import difflib
 import re
-import sys
 
 from items import text_of
 
@@ -26,16 +26,19 @@ def parameters():
              "all ones" if default >> 63 else f"{default:,}") for name, least, most, default in parameter_rows()]
 
 
-def finish(tool, files):
-    """Writes what differs; or with --check compares, with a line for each file that ends in 'passed' or 'failed'. Any other
-    word writes nothing."""
-    if sys.argv[1:] not in ([], ["--check"]):
-        print(f"usage: {tool} [--check]", file=sys.stderr)
-        return 2
+def is_check(about):
+    """Whether the one argument of a tool that makes files, --check, is given; the tool's head is its help."""
+    words = argparse.ArgumentParser(description=about, formatter_class=argparse.RawDescriptionHelpFormatter)
+    words.add_argument("--check", action="store_true", help="compare, and write nothing")
+    return words.parse_args().check
+
+
+def finish(tool, files, checks):
+    """Writes what differs; or compares, with a line for each file that ends in 'passed' or 'failed'."""
     well = True
     for file, text in files.items():
         there = text_of(file)
-        if sys.argv[1:] == ["--check"]:
+        if checks:
             wrong = list(difflib.unified_diff(there.splitlines(), text.splitlines(), file, tool, lineterm="", n=0))
             for it in wrong[:40]:
                 print(f"    {it}")

@@ -1,5 +1,5 @@
-"""What the numbers of the headers' enumerations mean, as the texts for C, the crate for Rust and the package for Python
-say it too, and that each answer is of one enumeration: for tools/bindings."""
+"""Reads what the numbers of the headers' enumerations mean, writes it for C, Rust and Python, and checks that each
+answer belongs to one enumeration, for tools/bindings."""
 import os
 import re
 import textwrap

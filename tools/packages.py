@@ -1,5 +1,5 @@
-"""Archives whose octets depend on their files and one time alone: a tarball, and what says of it that it is a source
-package for Debian. For tools/release. A file is its name, its octets and its mode."""
+"""Makes archives whose octets depend only on their files and one time: a tarball, and the description that makes it a
+source package for Debian. For tools/release. A file is its name, its octets and its mode."""
 import gzip
 import hashlib
 import io

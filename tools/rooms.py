@@ -1,5 +1,5 @@
-"""A folder with the packages of tools/release, and a Debian of its own in a folder, in which commands are run: for
-tools/check_release and tools/check_bare. mmdebstrap makes that Debian, and it is kept in out/ for the next run."""
+"""Makes a folder with the packages of tools/release, and a separate Debian in a folder, in which commands run, for
+tools/check_release and tools/check_bare. mmdebstrap makes that Debian, which is kept in out/ for the next run."""
 import glob
 import os
 import shutil

@@ -1,4 +1,4 @@
-"""Reads rows (rows/README.md says how they are written), and runs the tool over an input."""
+"""Reads rows, which rows/README.md describes, and runs the tool over an input."""
 import glob
 import os
 import re

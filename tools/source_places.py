@@ -1,4 +1,4 @@
-"""Where the source of a function of an object stands, by the function's name there: for tools/portable_c."""
+"""Finds the source of a function of an object by the function's name there, for tools/portable_c."""
 import functools
 import os
 import re

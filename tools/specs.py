@@ -1,5 +1,5 @@
-"""The definitions of specs/, the types of src/ and the contracts of public calls, with what each of them cites: for
-tools/definitions."""
+"""Reads the definitions of specs/, the types of src/ and the contracts of public calls, with what each of them cites,
+for tools/definitions."""
 import functools
 import glob
 import os

@@ -1,4 +1,4 @@
-"""Writes a function of WebAssembly as statements of C: for tools/portable_c.
+"""Writes a function of WebAssembly as C statements, for tools/portable_c.
 
 A value on the machine's stack is an expression; it is put into a variable first where something is written on which it
 depends. A frame on the stack in memory is an array of the function, from an address that 16 divides, as it does that of

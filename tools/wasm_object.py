@@ -1,8 +1,8 @@
-"""A relocatable object of WebAssembly with 64-bit addresses: its functions, constants, symbols and relocations, as the
-notes of the tools for WebAssembly describe them (linking, version 2). For tools/portable_c.
+"""Reads the functions, constants, symbols and relocations of a relocatable WebAssembly object with 64-bit addresses, as
+the tool conventions for WebAssembly describe them (linking, version 2). For tools/portable_c.
 
-What the libraries have none of is refused: calls by pointer, constants that hold addresses beside something else, data
-to write."""
+It refuses what the libraries do not contain: calls by pointer, constants that contain addresses and something else, and
+writable data."""
 import typing
 
 TYPE_SECTION, IMPORTS, FUNCTIONS, ELEMENTS, CODE, DATA = 1, 2, 3, 9, 10, 11

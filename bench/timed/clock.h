@@ -1,6 +1,6 @@
-/* What the programs of this folder share: they make calls of a library with the inputs that take longest, and write, for
- * each call and the numbers that its time goes by, the ticks of the most that was met. They run on a Cortex-M without an
- * operating system (c/tests/board/cortex_m.c), on which an emulator has a timer count instructions. */
+/* What the programs of this folder share. They make calls of a library with the inputs that take longest, and write,
+ * for each call and the numbers that determine its time, the most ticks that occurred. They run on a Cortex-M without
+ * an operating system (c/tests/board/cortex_m.c), on which a timer of the emulator counts instructions. */
 #ifndef CLOCK_H
 #define CLOCK_H
 #include "board.h"

@@ -1,5 +1,5 @@
-"""Lays a sum of a constant and a number for each unit of what a call goes by over its points, so that no point is above it,
-and as little above them as it can be: for bench/time."""
+"""Fits to the points of a call a sum, of a constant and a number for each unit of the values that determine its time,
+so that no point is above it and it is as little above them as possible, for bench/time."""
 import itertools
 import math
 

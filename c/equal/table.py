@@ -5,7 +5,7 @@ import re
 HEADER, NODES = "c/include/sedgechisel.h", "c/include/sedgechisel_nodes.h"
 CALL = re.compile(r"^(?:SEDGE_CHECK )?(?:\w+|struct \w+) \*?(sedge_\w+)\(", re.M)
 TARGETS = ("core", "telemetry", "nodes")
-HEAD = """| Calls | Looked at for | Equal to the second statement | Orders of octets | Fuzz target |
+HEAD = """| Calls | Inputs checked | Equal to the second statement | Orders of octets | Fuzz target |
 |---|---|---|---|---|
 """
 # What a compiler of C alone looks at: c/equal/fecf.c and c/equal/names.c.
@@ -41,7 +41,7 @@ def looked_at(call, checks):
 def cells(call, checks):
     """What a row says of a call."""
     found = looked_at(call, checks)
-    inputs = "; ".join(dict.fromkeys(it[0] for it in found)) or "not"
+    inputs = "; ".join(dict.fromkeys(it[0] for it in found)) or "none"
     kinds = {"equal": "yes", "safe": "no"}
     equal = ", ".join(dict.fromkeys(kinds[it[1]] for it in found))
     orders = ", ".join(dict.fromkeys(it[2] for it in found))
@@ -58,5 +58,5 @@ def table(checks):
         else:
             rows.append(([f"`{call}`"], own))
     left = [f"`{it}`" for it in calls_of(NODES) if not fuzzed(it)]
-    nodes = f"| each call of `sedgechisel_nodes.h` | not | | | nodes, but for {', '.join(left) or 'none'} |\n"
+    nodes = f"| each call of `sedgechisel_nodes.h` | none | | | nodes, except for {', '.join(left) or 'none'} |\n"
     return HEAD + "".join(f"| {', '.join(names)} | {own}" for names, own in rows) + nodes

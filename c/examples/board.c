@@ -1,10 +1,10 @@
 /* A whole board without heap, in static memory: the receiver of a telecommand link and the sender of its telemetry. It
- * has two MAPs with blocking, packets past the sequence control, room that runs out (Wait) and comes back, and a report
- * in each telemetry frame.
+ * has two MAPs with blocking, packets sent by bypass, room that runs out (Wait) and becomes free again, and a CLCW in
+ * each telemetry frame.
  *
  * A record of standard input is a slot of time: two octets with a count, the higher one first, and as many octets, as
- * the decoder of the channel coding hands them on; 0 where nothing came. In each slot a telemetry frame goes to
- * standard output, and a line for each packet that is executed to standard error. */
+ * the decoder of the channel coding forwards them; the count is 0 if nothing arrived. In each slot a telemetry frame
+ * goes to standard output, and a line for each packet that is executed to standard error. */
 #include <sedgechisel.h>
 #include <stdio.h>
 #include <stdlib.h>

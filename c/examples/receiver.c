@@ -1,5 +1,5 @@
 /* A receiver on board, over the calls of the spacecraft: it cuts the octets of standard input into telecommand frames,
- * and writes what came of each and the report that it leads to. It is for files, since it waits for 1,024 octets. */
+ * and writes the result of each and the CLCW after it. It is for files, since it waits for 1,024 octets. */
 #include <sedgechisel_nodes.h>
 #include <stdio.h>
 #include <string.h>

@@ -1,8 +1,8 @@
-/* A spacecraft that restarts unasked in the middle of a session, and a ground that goes on so that each command is
- * executed once and in sequence. The spacecraft begins in Lockout, so that no report of its new receiver is believed,
- * and each telemetry frame has a packet with its boot count and the number of commands that it has executed; all that
- * it has taken is executed. Each session begins by the six steps of docs/CONTROL.md, "The steps". It writes what
- * happens, and ends with 0 where all is as wanted. */
+/* A spacecraft that restarts unexpectedly during a session, and a ground that recovers so that each command is executed
+ * once and in sequence. The spacecraft begins in Lockout, so that the ground believes no CLCW of its new receiver. Each
+ * telemetry frame has a packet with the boot count and the number of commands executed; all packets taken are executed.
+ * Each session begins by the six steps of docs/CONTROL.md, "The steps". The program writes what happens, and ends with
+ * 0 if all is as expected. */
 #include <sedgechisel_nodes.h>
 #include <stdio.h>
 

@@ -1,6 +1,6 @@
-/* A sender and a receiver, and between them a link that loses a third of all frames and reports: a hundred units of one
- * octet go up, and the program ends when all are acknowledged. It writes what it took, and ends with 0 where the units
- * have come each once and in sequence. */
+/* A sender and a receiver, and between them a link that loses a third of all frames and CLCWs. A hundred units of one
+ * octet are sent, and the program ends when all are acknowledged. It writes how much this took, and ends with 0 if each
+ * unit has arrived once and in sequence. */
 #include <sedgechisel.h>
 #include <stdio.h>
 

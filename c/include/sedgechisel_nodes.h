@@ -1,31 +1,29 @@
 /* Both nodes of the telecommand link for programs in C: the ground, which sends packets until they are accepted, and
- * the spacecraft, which receives them and reports; and a simulated link between two such nodes. For C99 and later,
- * and for C++; see docs/C.md. The numbers of faults, verdicts and alerts, and their names, are those of
- * sedgechisel.h.
+ * the spacecraft, which receives them and reports; and a simulated link between two such nodes. For C99 and later, and
+ * for C++; see docs/C.md. The numbers of faults, verdicts and alerts, and their names, are those of sedgechisel.h.
  *
- * A handle holds a node or a link, or none. It begins as {0}, which holds none, and afterwards it is only ever what a
- * call here left in it: it is not copied, and not written by the program. Nothing can check that, so the caller
- * ensures it, and closes a handle before it is discarded. Each call does what its crate's contract says, for every
- * value of its arguments: the next state and the answer are those of ground_step, spacecraft_step and world_step. In
- * the proved archive this is proved, in portable C it is tested.
+ * A handle holds a node or a link, or none. Initialise a handle to {0}, which holds none, and close it before you
+ * discard it. In between, only the calls here may write it, and the program must not copy it; nothing can check that.
+ * Each call does what its crate's contract states, for every value of its arguments: ground_step, spacecraft_step and
+ * world_step define the next state and the answer. In the proved archive this is proved, in portable C it is tested.
  *
- * What a caller has to ensure besides: no pointer is null, and each is aligned for its type; at a pointer to octets,
- * as many as the number after it says may be read, and written where the pointer is not to const; what is written
- * overlaps nothing else that the call is given; and no handle is used by two threads at once.
+ * A caller must also ensure the following. No pointer is null, and each is aligned for its type. The octets at a
+ * pointer, as many as the number after it states, may be read; if the pointer is not to const, they may also be
+ * written. What a call writes overlaps nothing else that its arguments point to. No two threads use a handle at once.
  *
- * What is returned: a uint8_t is SEDGE_NODE_OK, or a number of the one enumeration that the call's comment names, or
- * SEDGE_NODE_NONE, which is the answer of every call to a handle that holds none. Two calls return what is no fault:
- * sedge_ground_tick an alert, and sedge_config_fault a parameter. Where any other call returns anything but 0, nothing
- * is written and the node is as it was. SEDGE_CHECK (sedgechisel.h) marks each call whose answer says more than that
- * the handle holds none.
+ * What calls return: a uint8_t is SEDGE_NODE_OK, or a number of the one enumeration that the call's comment names, or
+ * SEDGE_NODE_NONE, which every call returns for a handle that holds none. Two calls return something other than a
+ * fault: sedge_ground_tick an alert, and sedge_config_fault a parameter. If any other call returns a number other than
+ * 0, it has written nothing and the node has not changed. SEDGE_CHECK (sedgechisel.h) marks each call whose result can
+ * mean more than that the handle holds none.
  *
- * Memory comes from the functions rattle_alloc, rattle_realloc and rattle_dealloc, which malloc.c and static.c have
- * (docs/C.md); sedgechisel_memory.h says what each does.
+ * Memory comes from the functions rattle_alloc, rattle_realloc and rattle_dealloc, which malloc.c and static.c contain
+ * (docs/C.md); sedgechisel_memory.h describes what each does.
  *
- * What is taken out is written at the beginning of the caller's room, out, which has room octets. Where it does not
- * fit, the answer is SEDGE_NODE_ROOM, and nothing is taken out. How many octets are next is asked before, by a call
- * that changes nothing. SEDGE_PACKET_LONGEST octets are enough for every packet, SEDGE_TC_LONGEST for every frame up,
- * SEDGE_TM_LONGEST for every frame down. */
+ * A call writes what it takes out to the beginning of the caller's buffer, out, which has room octets. If it does not
+ * fit, the call returns SEDGE_NODE_ROOM and takes nothing out. A matching call writes how many octets are next, and
+ * changes nothing. SEDGE_PACKET_LONGEST octets are enough for every packet, SEDGE_TC_LONGEST for every uplink frame,
+ * SEDGE_TM_LONGEST for every downlink frame. */
 #ifndef SEDGECHISEL_NODES_H
 #define SEDGECHISEL_NODES_H
 
@@ -41,16 +39,16 @@ enum sedge_node_status {
     SEDGE_NODE_CLOSED_MAP = 2,     /* the MAP is not open */
     SEDGE_NODE_NOT_COMMAND = 3,    /* the octets are not command packets, or not as many as one call takes */
     SEDGE_NODE_TOO_LONG = 4,       /* a packet has more octets than it may have */
-    SEDGE_NODE_QUEUE_FULL = 5,     /* as many units as may wait are waiting */
-    SEDGE_NODE_MEMORY = 6,         /* there was no memory */
+    SEDGE_NODE_QUEUE_FULL = 5,     /* as many units wait as may wait */
+    SEDGE_NODE_MEMORY = 6,         /* out of memory */
     SEDGE_NODE_NOT_KNOWN = 10,     /* nothing is known of how far the session has come */
-    SEDGE_NODE_ROOM = 252,         /* the room is too short; nothing was taken out */
-    SEDGE_NODE_ABSENT = 253,       /* there is no record at this place, or a report says nothing of the segments */
-    SEDGE_NODE_OUT_OF_RANGE = 254, /* a parameter is out of its range */
-    SEDGE_NODE_NONE = 255          /* the handle holds no node; or a directive or an event is none */
+    SEDGE_NODE_ROOM = 252,         /* the output is too short; nothing was taken */
+    SEDGE_NODE_ABSENT = 253,       /* there is no record at this index, or a CLCW states nothing about the segments */
+    SEDGE_NODE_OUT_OF_RANGE = 254, /* a parameter is out of range */
+    SEDGE_NODE_NONE = 255          /* the handle holds no node, or there is no such directive or event */
 };
 
-/* The managed parameters (docs/PROFILE.md). The part is the ground's alone, since a spacecraft takes segments of up to
+/* The managed parameters (docs/PROFILE.md). Only the ground uses the part, since a spacecraft takes segments of up to
  * 1,016 octets. */
 struct sedge_config {
     uint32_t scid;         /* the spacecraft identifier, 0 to 1,023; default 1 */
@@ -60,18 +58,19 @@ struct sedge_config {
     uint32_t window;       /* the sender's window K, 1 to width/2; default 127 */
     uint32_t limit;        /* the transmission limit, 1 to 255; default 3 */
     uint32_t timer;        /* the timer's value in ticks, 1 to 65,535; default 10 */
-    uint32_t part;         /* the most octets of data in a segment, 1 to 1,016 (without silence before an initiation,
-                            * segments of two longer packets can be joined into a command that nobody submitted);
-                            * default 1,016 */
-    uint32_t max_packet;   /* the most octets of a packet, 7 to 65,542; default 65,542 */
-    uint64_t maps;         /* bit m, which counts 2 to the power of m, says that MAP m is open, any 64 bits; default
-                            * all ones */
+    uint32_t part;         /* the maximum number of data octets in a segment. Without silence before an initiation,
+                            * segments of two longer packets can be joined into a command that nobody submitted.
+                            * Range 1 to 1,016; default 1,016 */
+    uint32_t max_packet;   /* the maximum length of a packet in octets, 7 to 65,542; default 65,542 */
+    uint64_t maps;         /* the open MAPs, any 64 bits: bit m, of value 2 to the power of m, is 1 if MAP m is open;
+                            * default all ones */
     uint32_t ready_slots;  /* the number of packets waiting to be taken at which the buffer on board is full, 1 to
                             * 64; default 64 */
-    uint32_t bypass_slots; /* the most packets of bypass frames that wait to be taken, 1 to 64; default 4 */
-    uint32_t queue_slots;  /* the most units that wait to be sent for the first time, 1 to 65,535; default 1,000 */
-    uint32_t frame_length; /* the octets of a telemetry frame, 16 to 2,048; default 64 */
-    uint32_t blocking;     /* 1 where a segment may hold several packets, 0 to 1; default 0 */
+    uint32_t bypass_slots; /* the maximum number of bypass packets that wait to be taken, 1 to 64; default 4 */
+    uint32_t queue_slots;  /* the maximum number of units that wait to be sent for the first time, 1 to 65,535;
+                            * default 1,000 */
+    uint32_t frame_length; /* the length of a telemetry frame in octets, 16 to 2,048; default 64 */
+    uint32_t blocking;     /* 1 if a segment may contain several packets, 0 to 1; default 0 */
 };
 
 /* The managed parameters, in the order of their fields. */
@@ -94,11 +93,11 @@ enum sedge_parameter {
     SEDGE_PARAMETER_BLOCKING = 15
 };
 
-/* Writes the default of each parameter. A program begins with these, and sets what its mission has otherwise. */
+/* Writes the default of each parameter. A program begins with these, and sets those that differ in its mission. */
 void sedge_config_default(struct sedge_config *config);
 
-/* Sets a parameter by its number, of sedge_parameter. Returns false, and sets nothing, where there is none of this
- * number, or where its field does not hold the value. */
+/* Sets a parameter by its number, of sedge_parameter. Returns false, and sets nothing, if no parameter has this number,
+ * or if its field cannot hold the value. */
 static inline bool sedge_config_set(struct sedge_config *config, uint8_t number, uint64_t value) {
     uint32_t *field = NULL;
     uint64_t *wide = NULL;
@@ -126,11 +125,11 @@ static inline bool sedge_config_set(struct sedge_config *config, uint8_t number,
     return true;
 }
 
-/* Returns the first parameter that is out of its range, of sedge_parameter; SEDGE_NO_PARAMETER for none. A width is
- * also out of its range where it is odd, and a window where it is more than half of that. */
+/* Returns the first parameter that is out of range, of sedge_parameter; SEDGE_NO_PARAMETER for none. A width is also
+ * out of range if it is odd, and a window if it is more than half the width. */
 SEDGE_CHECK uint8_t sedge_config_fault(const struct sedge_config *config);
 
-/* Names, as tctool writes them; "?" for a number out of the enum. */
+/* Names, as tctool writes them; "?" for a number that is not in the enumeration. */
 struct sedge_text sedge_parameter_name(uint8_t number);
     /* the name of a sedge_parameter, which is that of its field in sedge_config */
 struct sedge_text sedge_link_fault_name(uint8_t number);
@@ -142,17 +141,18 @@ struct sedge_ground {
     void *node;
 };
 
-/* Opens a ground, in place of one that the handle holds. This one is let go of once the new one is made: a refusal
- * leaves it, and until then both have memory. Where there is memory for one alone, close the handle first. Returns 0,
+/* Opens a ground instead of one that the handle holds. The old ground is released once the new one is built: a refusal
+ * leaves it, and until then both have memory. If there is memory only for one, close the handle first. Returns 0,
  * SEDGE_NODE_OUT_OF_RANGE or SEDGE_NODE_MEMORY. */
 SEDGE_CHECK uint8_t sedge_ground_open(struct sedge_ground *ground, const struct sedge_config *config);
 
-/* Closes the ground, where there is one; the handle holds none then. */
+/* Closes the ground, if there is one; the handle then holds none. */
 void sedge_ground_close(struct sedge_ground *ground);
 
-/* Gives the ground's sender a directive, of sedge_directive (sedgechisel.h), with its value; one that has none ignores
- * it. Returns 0; or SEDGE_COP_WRONG_STATE; or for a value out of its range SEDGE_COP_WINDOW, SEDGE_COP_LIMIT or
- * SEDGE_COP_TIMER; or SEDGE_NODE_NONE, also for a directive that is none, and for a number V(R) or V(S) above 255. */
+/* Gives the ground's sender a directive, of sedge_directive (sedgechisel.h), with its value; a directive without a
+ * value ignores it. Returns 0; or SEDGE_COP_WRONG_STATE; or for a value out of range SEDGE_COP_WINDOW,
+ * SEDGE_COP_LIMIT or SEDGE_COP_TIMER; or SEDGE_NODE_NONE, also for a number that is not a directive, and for a V(R)
+ * or V(S) above 255. */
 SEDGE_CHECK uint8_t sedge_ground_directive(struct sedge_ground *ground, uint8_t directive, uint16_t value);
 
 /* Each directive by its name. Up to 0.2 these were calls of the library; they are sedge_ground_directive now. */
@@ -184,163 +184,166 @@ static inline SEDGE_CHECK uint8_t sedge_ground_set_timer(struct sedge_ground *gr
     return sedge_ground_directive(ground, SEDGE_SET_TIMER, timer);
 }
 
-/* Submits packets on a MAP, to be sent under sequence control: one, or several where blocking is on. Returns 0, or the
- * first of 1 to 5 of sedge_node_status that applies, or SEDGE_NODE_MEMORY. sedge_map_count says in how many segments
- * they go. That sedge_ground_resume counts a submission right is promised of one packet, and of packets that go in one
- * segment together. */
+/* Submits one packet on a MAP under sequence control, or several if blocking is on. Returns 0, or the first of 1 to
+ * 5 of sedge_node_status that applies, or SEDGE_NODE_MEMORY. sedge_map_count writes the number of their segments.
+ * The promise that sedge_ground_resume counts a submission correctly covers one packet, and packets that share one
+ * segment. */
 SEDGE_CHECK uint8_t sedge_ground_submit(struct sedge_ground *ground, uint8_t map, const uint8_t *octets, size_t count);
 
-/* Submits one packet on a MAP past the sequence control. Returns 0, or the first of 2 to 5 of sedge_node_status that
- * applies, or SEDGE_NODE_MEMORY. */
+/* Submits one packet on a MAP by bypass (Type-BD). Returns 0, or the first of 2 to 5 of sedge_node_status that applies,
+ * or SEDGE_NODE_MEMORY. */
 SEDGE_CHECK uint8_t sedge_ground_bypass(struct sedge_ground *ground, uint8_t map, const uint8_t *octets, size_t count);
 
-/* Writes how many octets the frame that goes on the link next has, 8 to 1,024; 0 where nothing is to be sent. Returns
- * 0. */
+/* Writes the length in octets of the next frame for the link, 8 to 1,024, or 0 if nothing is to be sent. Returns 0. */
 uint8_t sedge_ground_next(struct sedge_ground *ground, size_t *count);
 
-/* Takes the frame that goes on the link next, with its FECF (232.0-B-4, 4.1): writes it, and the number of its octets;
- * or 0 octets where nothing is to be sent. Returns 0 or SEDGE_NODE_ROOM. */
+/* Takes the next frame for the link, with its FECF (232.0-B-4, 4.1). Writes it and the number of its octets, or 0
+ * octets if nothing is to be sent. Returns 0 or SEDGE_NODE_ROOM. */
 SEDGE_CHECK uint8_t sedge_ground_pull(struct sedge_ground *ground, uint8_t *out, size_t room, size_t *count);
 
-/* Writes the frame that goes on the link next as sedge_ground_pull does; the ground stays as it was. With
- * sedge_ground_advance the frame counts as sent once a radio that may refuse it has taken it. Returns 0 or
- * SEDGE_NODE_ROOM. */
+/* Writes the next frame for the link as sedge_ground_pull does; the ground does not change. Call sedge_ground_advance,
+ * and the frame counts as sent, once a radio that may refuse it has taken it. Returns 0 or SEDGE_NODE_ROOM. */
 SEDGE_CHECK uint8_t sedge_ground_peek(struct sedge_ground *ground, uint8_t *out, size_t room, size_t *count);
 
-/* Counts the frame that goes on the link next as sent, as sedge_ground_pull does; nothing changes where nothing is to
- * be sent. Returns 0. */
+/* Counts the next frame for the link as sent, as sedge_ground_pull does. If nothing is to be sent, nothing changes.
+ * Returns 0. */
 uint8_t sedge_ground_advance(struct sedge_ground *ground);
 
-/* What octets are that the ground received. */
+/* What the octets are that the ground received. */
 enum sedge_heard_kind {
-    SEDGE_HEARD_INVALID = 1, /* no frame */
+    SEDGE_HEARD_INVALID = 1, /* not a valid frame */
     SEDGE_HEARD_FOREIGN = 2, /* a frame of another spacecraft or virtual channel */
     SEDGE_HEARD_FRAME = 3,   /* a frame of this one */
-    SEDGE_HEARD_CLCW = 4     /* a report by itself */
+    SEDGE_HEARD_CLCW = 4     /* a CLCW by itself */
 };
 
-/* What becomes of a report. */
+/* What becomes of a CLCW. */
 enum sedge_heard_report {
-    SEDGE_REPORT_USED = 0,         /* it is given to the sender */
-    SEDGE_REPORT_REFUSED = 1,      /* it is none */
-    SEDGE_REPORT_OTHER_CHANNEL = 2 /* it is about another virtual channel */
+    SEDGE_REPORT_USED = 0,         /* it is passed to the sender */
+    SEDGE_REPORT_REFUSED = 1,      /* it is not a valid CLCW */
+    SEDGE_REPORT_OTHER_CHANNEL = 2 /* it reports on another virtual channel */
 };
 
-/* What the ground makes of octets that it received: their kind, then what that kind or that fate of the report has, by
- * the end of its name; the rest is 0. */
+/* What the ground makes of octets that it received: their kind, and the fields for that kind and for what becomes of
+ * the CLCW. The note of a field begins with the last words of the constants for which the field is set; for all others
+ * it is 0. */
 struct sedge_heard {
-    size_t packets;     /* FRAME: the number of packets that came to wait to be taken */
+    size_t packets;     /* FRAME: the number of packets added to those that wait to be taken */
     uint8_t kind;       /* of sedge_heard_kind */
-    uint8_t fault;      /* INVALID: why they are no frame, of sedge_tm_fault */
-    uint8_t first;      /* FRAME: whether no frame came before it, 0 or 1 */
+    uint8_t fault;      /* INVALID: why the octets do not form a valid frame, of sedge_tm_fault */
+    uint8_t first;      /* FRAME: whether it is the first frame, 0 or 1 */
     uint8_t missing;    /* FRAME: the number of frames that are missing before it */
-    uint8_t report;     /* FRAME, CLCW: what becomes of the report, of sedge_heard_report */
-    uint8_t word_fault; /* REFUSED: why it is none, of sedge_clcw_fault */
+    uint8_t report;     /* FRAME, CLCW: what becomes of the CLCW, of sedge_heard_report */
+    uint8_t word_fault; /* REFUSED: why it is not a valid CLCW, of sedge_clcw_fault */
     uint8_t alert;      /* USED: of sedge_alert, SEDGE_NO_ALERT for none */
 };
 
-/* Takes octets that came from the spacecraft, and writes what they are. Returns 0, or SEDGE_NODE_MEMORY where they
+/* Takes octets that came from the spacecraft, and writes what they are. Returns 0, or SEDGE_NODE_MEMORY, only if they
  * finish a packet. */
 SEDGE_CHECK uint8_t sedge_ground_telemetry(struct sedge_ground *ground, const uint8_t *octets, size_t count,
                                            struct sedge_heard *heard);
 
-/* Takes a report that came by itself, a CLCW as a front end hands it on (232.0-B-4, 4.2), and writes what becomes of
- * it, as sedge_ground_telemetry does of the report in a telemetry frame; telemetry is not touched. The last one may be
- * handed on again before the next, which changes nothing; an older one may not come again as if it were new. Returns 0,
+/* Takes a CLCW that came by itself, as a front end forwards it (232.0-B-4, 4.2), and writes what becomes of it, as
+ * sedge_ground_telemetry does for the CLCW of a telemetry frame. Telemetry is not touched. The front end may repeat the
+ * last CLCW before the next one, which changes nothing; it may not forward an older one as if it were new. Returns 0,
  * or SEDGE_NODE_ABSENT if the octets are not four. */
 SEDGE_CHECK uint8_t sedge_ground_clcw(struct sedge_ground *ground, const uint8_t *octets, size_t count,
                                       struct sedge_heard *heard);
 
-/* Begins to take packets out of telemetry anew, as after a restart of the spacecraft, whose counts go on elsewhere: a
- * packet that is not finished is dropped, and the next frame is the first (132.0-B-3, 4.3.2). Packets that wait to be
- * taken stay. Returns 0. */
+/* Restarts the extraction of packets from telemetry, for example after a restart of the spacecraft, whose frame counts
+ * then continue elsewhere. An unfinished packet is dropped, and the next frame is the first (132.0-B-3, 4.3.2). Packets
+ * that wait to be taken stay. Returns 0. */
 uint8_t sedge_ground_forget_telemetry(struct sedge_ground *ground);
 
-/* Writes the report that a telemetry frame carries, of whichever spacecraft and virtual channel (232.0-B-4, 4.2); the
- * ground stays as it was. Returns 0, or SEDGE_NODE_ABSENT if the octets are no frame or the frame carries no report. */
+/* Writes the CLCW that a telemetry frame of any spacecraft and virtual channel carries (232.0-B-4, 4.2); the ground
+ * does not change. Returns 0, or SEDGE_NODE_ABSENT if the octets do not form a valid frame or the frame carries no
+ * CLCW. */
 SEDGE_CHECK uint8_t sedge_ground_clcw_in(struct sedge_ground *ground, const uint8_t *octets, size_t count,
                                          struct sedge_clcw *word);
 
-/* Writes how many octets the oldest packet of telemetry has, 7 to 65,542; 0 where none waits. Returns 0. */
+/* Writes the length in octets of the oldest telemetry packet, 7 to 65,542, or 0 if none waits. Returns 0. */
 uint8_t sedge_ground_next_telemetry(struct sedge_ground *ground, size_t *count);
 
-/* Takes the oldest packet of telemetry (132.0-B-3, 4.3.2): writes it, and the number of its octets; or 0 octets where
- * none waits. Returns 0 or SEDGE_NODE_ROOM. */
+/* Takes the oldest telemetry packet (132.0-B-3, 4.3.2). Writes it and the number of its octets, or 0 octets if none
+ * waits. Returns 0 or SEDGE_NODE_ROOM. */
 SEDGE_CHECK uint8_t sedge_ground_take_telemetry(struct sedge_ground *ground, uint8_t *out, size_t room, size_t *count);
 
-/* A tick of the clock has passed. Returns the alert, of sedge_alert, SEDGE_NO_ALERT for none. */
+/* Counts a tick of the clock. Returns the alert, of sedge_alert, SEDGE_NO_ALERT for none. */
 SEDGE_CHECK uint8_t sedge_ground_tick(struct sedge_ground *ground);
 
 struct sedge_ground_reading {
-    uint64_t submitted;          /* the number of submissions of the session; they count from 0. This and the two
-                                  * below: modulo 2^64, after an alert too, and 0 once V(S) is set */
-    uint64_t sent_whole;         /* how many first ones of them were sent whole, each to its last segment */
-    uint64_t acknowledged_whole; /* how many first ones are acknowledged whole, so that they are on board */
+    uint64_t submitted;          /* the number of submissions of the session; they count from 0. This number and the
+                                  * two below are modulo 2^64, also after an alert, and 0 once V(S) is set */
+    uint64_t sent_whole;         /* how many of the session's submissions, from the first on, were sent whole, each
+                                  * to its last segment */
+    uint64_t acknowledged_whole; /* how many of the session's submissions, from the first on, are acknowledged whole,
+                                  * so that they are on board */
     size_t outstanding;          /* the number of segments that were submitted and are not acknowledged */
-    size_t unsent;               /* how many of them wait to be sent for the first time */
-    size_t due;                  /* how many of them are to be sent again */
+    size_t unsent;               /* how many outstanding segments wait to be sent for the first time */
+    size_t due;                  /* how many outstanding segments are to be retransmitted */
     size_t bypassed;             /* how many bypass packets wait to be sent */
     size_t frame_length;         /* of telemetry, in octets */
-    uint16_t ticks;              /* the ticks that are left of the timer, or 0 where it does not run */
-    uint8_t state;               /* of the sender, of sedge_fop_state (232.1-B-2, 5.1) */
+    uint16_t ticks;              /* the ticks that are left while the timer runs, otherwise 0 */
+    uint8_t state;               /* the sender's state, of sedge_fop_state (232.1-B-2, 5.1) */
     uint8_t vs;                  /* V(S), the number of the next segment that is sent for the first time */
     uint8_t nn;                  /* NN(R), the number that the spacecraft was last known to expect */
     uint8_t count;               /* the transmission count, at least 1 */
 };
 
-/* Reads the ground: how far its submissions have come, the sender's state, V(S), NN(R), transmission count and timer,
- * what is outstanding and what waits, and how many octets a telemetry frame has. It stays as it was. Returns 0. */
+/* Reads the ground: how far its submissions have come, the sender's state, V(S), NN(R), transmission count and
+ * timer, what is outstanding and what waits, and how many octets a telemetry frame has. The ground does not change.
+ * Returns 0. */
 uint8_t sedge_ground_read(struct sedge_ground *ground, struct sedge_ground_reading *read);
 
-/* Writes how many of the segments that were sent and not acknowledged were accepted on board when a report of this
- * value was made: the oldest ones (232.1-B-2, 5.1). It does so after an alert too, until V(S) is set or an initiation
- * begins, and goes by the numbers alone: after an alert that shows a broken condition nothing of them is known,
- * whatever it writes. If V(S) is NN(R) there are no such segments, and it writes 0 whatever the value. Returns 0, or
- * SEDGE_NODE_ABSENT if there are and the value does not lie from NN(R) to V(S), so that nothing is known of them. */
+/* Writes how many of the segments that were sent and not acknowledged were accepted on board when a CLCW of this value
+ * was made. They are the oldest ones (232.1-B-2, 5.1). The call does so after an alert too, until V(S) is set or an
+ * initiation begins. It uses only the numbers: after an alert that shows a broken condition nothing is known of these
+ * segments, whatever the call writes. If V(S) is NN(R), there are no such segments, and the call writes 0 for every
+ * value. Returns 0, or SEDGE_NODE_ABSENT if there are such segments and the value does not lie from NN(R) to V(S), so
+ * that nothing is known of them. */
 SEDGE_CHECK uint8_t sedge_ground_accepted_beyond(struct sedge_ground *ground, uint8_t value, uint8_t *accepted);
 
-/* Writes how many first ones of the session's submissions are known to be on board whole by a report of this value:
- * those that are acknowledged, and those all of whose segments it says were accepted (232.1-B-2, 5.1). It does so
- * after an alert too. Returns 0, or SEDGE_NODE_ABSENT where nothing is known: no session has begun, V(S) was set
- * since, an alert came since that shows a broken condition, or V(S) is not NN(R) and the value does not lie from
- * NN(R) to V(S). */
+/* Writes how many of the session's submissions, from the first on, are known to be on board whole from a CLCW of this
+ * value. They are those that are acknowledged, and those whose segments were all accepted according to the CLCW
+ * (232.1-B-2, 5.1). The call does so after an alert too. Returns 0, or SEDGE_NODE_ABSENT where nothing is known: no
+ * session has begun, V(S) was set since, an alert has shown a broken condition since, or V(S) is not NN(R) and the
+ * value does not lie from NN(R) to V(S). */
 SEDGE_CHECK uint8_t sedge_ground_known_on_board(struct sedge_ground *ground, uint8_t value, uint64_t *whole);
 
-/* Begins the next session after an alert, where the last one has got to: sets V(S) to the value of a report that was
- * made when nothing was on its way up, begins by Unlock (232.1-B-2, 5.2.4), and writes how many first ones of the
- * submissions of the session that ended are on board whole, counted within that session; those after them are to be
- * submitted again. A submission of more octets than a segment takes (part) that holds several packets is whole only
- * with its last one, so that some of its packets may be on board before, and come again. Returns 0, or
- * SEDGE_NODE_NOT_KNOWN (10), and nothing has changed: the sender is not in S6, no session has begun, V(S) was set
- * since, an alert came since that shows a broken condition, or V(S) is not NN(R) and the value does not lie from NN(R)
- * to V(S). */
+/* Begins the next session after an alert, from where the last one has got to. Sets V(S) to the value of a CLCW that was
+ * made when nothing was in transit on the uplink, and begins by Unlock (232.1-B-2, 5.2.4). Writes how many of the ended
+ * session's submissions, from the first on, are on board whole, counted within that session; resubmit those after them.
+ * A submission of several packets that has more octets than a segment takes (part) is whole only with its last packet.
+ * Some of its packets may therefore be on board already, and be delivered again. Returns 0, or SEDGE_NODE_NOT_KNOWN
+ * (10), and nothing has changed: the sender is not in S6, no session has begun, V(S) was set since, an alert has shown
+ * a broken condition since, or V(S) is not NN(R) and the value does not lie from NN(R) to V(S). */
 SEDGE_CHECK uint8_t sedge_ground_resume(struct sedge_ground *ground, uint8_t value, uint64_t *whole);
 
-/* What is kept of a ground: V(S) and NN(R) (232.1-B-2, 5.1), and the account of the submissions that were sent whole.
- * It has no padding, so its octets may be stored as they are, and read on the same machine. */
+/* The record of a ground: V(S) and NN(R) (232.1-B-2, 5.1), and the counts of the submissions that were sent whole. The
+ * record has no padding, so its octets may be stored as they are, and read on the same machine. */
 struct sedge_kept_ground {
     uint64_t acknowledged; /* how many submissions are acknowledged whole, modulo 2^64 */
     uint8_t vs;            /* V(S), the number of the next segment that is sent for the first time */
     uint8_t nn;            /* NN(R), the number that the spacecraft was last known to expect */
-    uint8_t known;         /* 1 where these are a session's, and no alert has shown that a condition is broken; else
+    uint8_t known;         /* 1 if these numbers are a session's and no alert has shown a broken condition, otherwise
                             * 0 */
-    uint8_t whole;         /* how many submissions more were sent whole, 0 to 127 */
-    uint8_t segments[127]; /* how many segments of each of these are not acknowledged, the oldest first; and then
-                            * zeros */
-    uint8_t zeros[5];      /* zeros, which are not looked at */
+    uint8_t whole;         /* the number of further submissions that were sent whole, 0 to 127 */
+    uint8_t segments[127]; /* for each of these, the oldest first, the number of its segments that are not
+                            * acknowledged; then zeros */
+    uint8_t zeros[5];      /* zeros, which are not read */
 };
 
-/* Writes what is kept of the ground, in one record of fixed size, and the ground stays as it was. A program stores the
- * record after each call, and after a pull before the frame goes out; where the ground is lost, sedge_ground_open_kept
- * opens another at it. Of submissions that were not sent whole nothing is kept, nor of bypass packets, of telemetry,
- * and of what directives set. Returns 0. */
+/* Writes the ground's record, which has a fixed size; the ground does not change. A program stores the record after
+ * each call, and after a pull before the frame goes out. If the ground is lost, sedge_ground_open_kept opens another
+ * one from the record. The record contains nothing of submissions that were not sent whole, of bypass packets, of
+ * telemetry, or of what directives set. Returns 0. */
 uint8_t sedge_ground_kept(struct sedge_ground *ground, struct sedge_kept_ground *kept);
 
-/* Opens a ground that goes on where another was lost, in S6, at the record that sedge_ground_kept wrote: with its V(S),
- * its NN(R) and its account of submissions. It is the other after Terminate, without what waited, and with the window,
- * the limit and the timer of the configuration; so sedge_ground_resume begins the next session, as after an alert. It
- * is opened as sedge_ground_open does. Returns 0, SEDGE_NODE_OUT_OF_RANGE (also for a record that no ground of this
- * configuration writes) or SEDGE_NODE_MEMORY. */
+/* Opens a ground that continues, in S6, from the record that sedge_ground_kept wrote of a lost one: with its V(S), its
+ * NN(R) and its counts of submissions. The new ground is the lost one after Terminate, without what waited, and with
+ * the window, the limit and the timer of the configuration. So sedge_ground_resume begins the next session, as after an
+ * alert. A ground that the handle holds is treated as by sedge_ground_open. Returns 0, SEDGE_NODE_OUT_OF_RANGE (also
+ * for a record that no ground of this configuration writes) or SEDGE_NODE_MEMORY. */
 SEDGE_CHECK uint8_t sedge_ground_open_kept(struct sedge_ground *ground, const struct sedge_config *config,
                                            const struct sedge_kept_ground *kept);
 
@@ -350,28 +353,28 @@ struct sedge_spacecraft {
     void *node;
 };
 
-/* Opens a spacecraft, in place of one that the handle holds, as sedge_ground_open does. Returns 0,
+/* Opens a spacecraft instead of one that the handle holds, as sedge_ground_open does. Returns 0,
  * SEDGE_NODE_OUT_OF_RANGE or SEDGE_NODE_MEMORY. */
 SEDGE_CHECK uint8_t sedge_spacecraft_open(struct sedge_spacecraft *spacecraft, const struct sedge_config *config);
 
-/* Closes the spacecraft, where there is one; the handle holds none then. */
+/* Closes the spacecraft, if there is one; the handle then holds none. */
 void sedge_spacecraft_close(struct sedge_spacecraft *spacecraft);
 
-/* What octets are that the spacecraft received. */
+/* What the octets are that the spacecraft received. */
 enum sedge_received_kind {
-    SEDGE_RECEIVED_INVALID = 1, /* no frame */
+    SEDGE_RECEIVED_INVALID = 1, /* not a valid frame */
     SEDGE_RECEIVED_FOREIGN = 2, /* a frame of another spacecraft or virtual channel */
     SEDGE_RECEIVED_AD = 3,      /* a Type-AD frame of this one */
     SEDGE_RECEIVED_BD = 4,      /* a Type-BD frame */
     SEDGE_RECEIVED_BC = 5       /* a Type-BC frame */
 };
 
-/* What the spacecraft makes of octets that it received: their kind, then what that kind has, by the end of its name;
- * the rest is 0. */
+/* What the spacecraft makes of octets that it received: their kind, and the fields for that kind. The note of a field
+ * begins with the last word of the constant for which the field is set; for all others it is 0. */
 struct sedge_received {
-    size_t ready;    /* AD: the number of packets that came to wait to be taken */
+    size_t ready;    /* AD: the number of packets added to those that wait to be taken */
     uint8_t kind;    /* of sedge_received_kind */
-    uint8_t fault;   /* INVALID: why they are no frame, of sedge_tc_fault */
+    uint8_t fault;   /* INVALID: why the octets do not form a valid frame, of sedge_tc_fault */
     uint8_t n;       /* AD: its number, N(S) */
     uint8_t verdict; /* AD: of sedge_verdict */
     uint8_t dropped; /* AD: why octets on its MAP were dropped, of sedge_dropped; SEDGE_NOT_DROPPED for none */
@@ -380,30 +383,29 @@ struct sedge_received {
     uint8_t vr;      /* BC: the number of Set V(R) */
 };
 
-/* Takes octets that came from the ground, and writes what they are. Returns 0, or SEDGE_NODE_MEMORY where a frame's
- * data are handed on. */
+/* Takes octets that came from the ground, and writes what they are. Returns 0, or SEDGE_NODE_MEMORY, only if a frame's
+ * data are passed on. */
 SEDGE_CHECK uint8_t sedge_spacecraft_receive(struct sedge_spacecraft *spacecraft, const uint8_t *octets, size_t count,
                                              struct sedge_received *received);
 
-/* Writes the MAP of the oldest packet of sequence-controlled frames, and the number of its octets, 7 to 65,542; or 0
- * octets alone where none waits. Returns 0. */
+/* Writes the MAP of the oldest packet of sequence-controlled frames, and the number of its octets, 7 to 65,542; or only
+ * 0 octets if none waits. Returns 0. */
 uint8_t sedge_spacecraft_next(struct sedge_spacecraft *spacecraft, uint8_t *map, size_t *count);
 
-/* Takes the oldest packet of sequence-controlled frames (232.0-B-4, 4.4): writes its MAP, the packet, and the number of
- * its octets; or 0 octets alone where none waits. Returns 0 or SEDGE_NODE_ROOM. */
+/* Takes the oldest packet of sequence-controlled frames (232.0-B-4, 4.4). Writes its MAP, the packet, and the number of
+ * its octets; or only 0 octets if none waits. Returns 0 or SEDGE_NODE_ROOM. */
 SEDGE_CHECK uint8_t sedge_spacecraft_take(struct sedge_spacecraft *spacecraft, uint8_t *map, uint8_t *out,
                                           size_t room, size_t *count);
 
-/* Writes the same of the oldest packet that came past the sequence control. Returns 0. */
+/* Writes the MAP and the number of octets of the oldest bypass packet, as sedge_spacecraft_next does. Returns 0. */
 uint8_t sedge_spacecraft_next_bypass(struct sedge_spacecraft *spacecraft, uint8_t *map, size_t *count);
 
-/* Takes the oldest packet that came past the sequence control (232.0-B-4, 4.4), as sedge_spacecraft_take does. Returns
- * 0 or SEDGE_NODE_ROOM. */
+/* Takes the oldest bypass packet (232.0-B-4, 4.4), as sedge_spacecraft_take does. Returns 0 or SEDGE_NODE_ROOM. */
 SEDGE_CHECK uint8_t sedge_spacecraft_take_bypass(struct sedge_spacecraft *spacecraft, uint8_t *map, uint8_t *out,
                                                  size_t room, size_t *count);
 
 /* Queues a packet to be sent as telemetry (132.0-B-3, 4.2.2). Returns 0, or the first of SEDGE_TM_NOT_A_PACKET (the
- * octets are not exactly one packet, or an idle one) and SEDGE_TM_MEMORY. */
+ * octets are not exactly one packet, or are an idle one) and SEDGE_TM_MEMORY. */
 SEDGE_CHECK uint8_t sedge_spacecraft_telemetry(struct sedge_spacecraft *spacecraft, const uint8_t *packet,
                                                size_t count);
 
@@ -415,46 +417,46 @@ SEDGE_CHECK uint8_t sedge_spacecraft_telemetry_frame(struct sedge_spacecraft *sp
 struct sedge_spacecraft_reading {
     size_t frame_length; /* of telemetry, in octets */
     size_t ready;        /* how many packets of sequence-controlled frames wait to be taken */
-    size_t bypassed;     /* how many packets that came past the sequence control wait to be taken */
-    uint8_t status;      /* of the report that the next frame carries, as in struct sedge_clcw */
+    size_t bypassed;     /* how many bypass packets wait to be taken */
+    uint8_t status;      /* of the CLCW that the next frame carries, as in struct sedge_clcw */
     uint8_t vcid;
     uint8_t flags;
     uint8_t farm_b;
     uint8_t value;
-    uint8_t state;       /* of the receiver, of sedge_farm_mode */
+    uint8_t state;       /* the receiver's state, of sedge_farm_mode */
     uint8_t mc_count;    /* the next frame's count on the master channel */
     uint8_t vc_count;    /* the next frame's count on the virtual channel */
 };
 
-/* Reads the spacecraft: how many octets a telemetry frame has, how many packets wait, the report that the next frame
- * carries, its counts, and the receiver's state. It stays as it was. Returns 0. */
+/* Reads the spacecraft: how many octets a telemetry frame has, how many packets wait, the CLCW that the next frame
+ * carries, its counts, and the receiver's state. The spacecraft does not change. Returns 0. */
 uint8_t sedge_spacecraft_read(struct sedge_spacecraft *spacecraft, struct sedge_spacecraft_reading *read);
 
-/* Opens a spacecraft that goes on with what sedge_spacecraft_read gave before a restart on purpose: V(R), which is
- * value there, farm_b, and the counts of telemetry frames. Its receiver is Open with no flag, and no packet is on
- * board; the other fields are not looked at. It is opened as sedge_spacecraft_open does. Returns 0,
+/* Opens a spacecraft that continues with what sedge_spacecraft_read wrote before a deliberate restart: V(R), which is
+ * value there, farm_b, and the telemetry frame counts. The other fields are not read. The receiver is Open with no flag
+ * set, and no packet is on board. A spacecraft that the handle holds is treated as by sedge_spacecraft_open. Returns 0,
  * SEDGE_NODE_OUT_OF_RANGE (also if farm_b is not below 4) or SEDGE_NODE_MEMORY. */
 SEDGE_CHECK uint8_t sedge_spacecraft_open_kept(struct sedge_spacecraft *spacecraft, const struct sedge_config *config,
                                                const struct sedge_spacecraft_reading *kept);
 
-/* ---- A simulated link between two nodes, for tests: it keeps its order in each direction, and loses or damages
- * frames only so that the receiver sees it. ---- */
+/* ---- A simulated link between two nodes, for tests: it keeps the order of the frames in each direction, and loses or
+ * damages frames only in ways that the receiver detects. ---- */
 
 struct sedge_sim {
     void *link;
 };
 
-/* Opens a link with two new nodes, in place of one that the handle holds, as sedge_ground_open does. Returns 0,
+/* Opens a link with two new nodes instead of one that the handle holds, as sedge_ground_open does. Returns 0,
  * SEDGE_NODE_OUT_OF_RANGE or SEDGE_NODE_MEMORY. */
 SEDGE_CHECK uint8_t sedge_sim_open(struct sedge_sim *sim, const struct sedge_config *config);
 
-/* Closes the link, where there is one; the handle holds none then. */
+/* Closes the link, if there is one; the handle then holds none. */
 void sedge_sim_close(struct sedge_sim *sim);
 
 /* Why an event does not happen. */
 enum sedge_sim_fault {
-    SEDGE_SIM_MEMORY = 6,             /* there was no memory */
-    SEDGE_SIM_NOTHING_IN_TRANSIT = 7, /* no frame is on its way in this direction */
+    SEDGE_SIM_MEMORY = 6,             /* out of memory */
+    SEDGE_SIM_NOTHING_IN_TRANSIT = 7, /* no frame is in transit in this direction */
     SEDGE_SIM_NOT_DETECTABLE = 8      /* the receiver's decoder would accept the octets of the damaged frame */
 };
 
@@ -469,69 +471,70 @@ enum sedge_reply_kind {
     SEDGE_REPLY_REFUSED = 3,    /* a node refused the call: by, fault */
     SEDGE_REPLY_ALERT = 4,      /* the ground's sender has given up: alert */
     SEDGE_REPLY_SENT = 5,       /* the ground sent a frame: count */
-    SEDGE_REPLY_REPORTED = 6,   /* the spacecraft sent a frame with a report: report */
+    SEDGE_REPLY_REPORTED = 6,   /* the spacecraft sent a frame with a CLCW: report */
     SEDGE_REPLY_UP = 7,         /* the spacecraft received: up */
     SEDGE_REPLY_DOWN = 8,       /* the ground received: down */
     SEDGE_REPLY_PACKET = 9,     /* a packet was taken: map, count */
-    SEDGE_REPLY_DOWN_CLCW = 10, /* the ground received a report by itself: down */
+    SEDGE_REPLY_DOWN_CLCW = 10, /* the ground received a CLCW by itself: down */
     SEDGE_REPLY_RESUMED = 11    /* the ground has resumed: whole */
 };
 
-/* The part of a node that refused a call, and of which enum its number is. */
+/* The part of a node that refused a call, and the enumeration of its number. */
 enum sedge_refused_by {
     SEDGE_BY_NODE = 1,     /* of sedge_node_status */
     SEDGE_BY_SENDER = 2,   /* of sedge_cop_fault */
     SEDGE_BY_TELEMETRY = 3 /* of sedge_tm_fault */
 };
 
-/* A reply: its kind, then what that kind has; the rest is 0. */
+/* A reply: its kind, and the fields of that kind; the rest is 0. */
 struct sedge_reply {
-    size_t count;             /* the octets of the frame that was sent, or of the packet */
-    uint64_t whole;           /* how many submissions of the session that ended are on board whole */
+    size_t count;             /* the number of octets of the frame that was sent, or of the packet */
+    uint64_t whole;           /* how many submissions of the ended session are on board whole */
     struct sedge_received up;
     struct sedge_heard down;
     struct sedge_clcw report;
     uint8_t kind;             /* of sedge_reply_kind */
     uint8_t by;               /* of sedge_refused_by */
-    uint8_t fault;            /* of the enum that by names */
+    uint8_t fault;            /* of the enumeration that by selects */
     uint8_t alert;            /* of sedge_alert */
     uint8_t map;              /* of the packet */
 };
 
-/* What may happen: on the ground, to a frame on its way, or on board, which the notes say then. */
+/* What may happen: on the ground, to a frame in transit, or on board, as the notes state. */
 enum sedge_event_kind {
     SEDGE_EVENT_SUBMIT = 1,       /* packets are submitted: map, octets */
-    SEDGE_EVENT_BYPASS = 2,       /* a packet is submitted past the sequence control: map, octets */
+    SEDGE_EVENT_BYPASS = 2,       /* a packet is submitted by bypass: map, octets */
     SEDGE_EVENT_DIRECTIVE = 3,    /* the ground is given a directive: directive, value */
     SEDGE_EVENT_SEND = 4,         /* the ground sends a frame */
-    SEDGE_EVENT_UP_DELIVER = 5,   /* the first frame on its way up arrives */
+    SEDGE_EVENT_UP_DELIVER = 5,   /* the first frame in transit on the uplink arrives */
     SEDGE_EVENT_UP_LOSE = 6,      /* it is lost */
     SEDGE_EVENT_UP_DAMAGE = 7,    /* these arrive in its place, which are no frame: octets */
     SEDGE_EVENT_REPORT = 8,       /* the spacecraft sends a frame, which reports */
-    SEDGE_EVENT_DOWN_DELIVER = 9, /* the first frame on its way down arrives */
+    SEDGE_EVENT_DOWN_DELIVER = 9, /* the first frame in transit on the downlink arrives */
     SEDGE_EVENT_DOWN_LOSE = 10,   /* it is lost */
     SEDGE_EVENT_DOWN_DAMAGE = 11, /* these arrive in its place, which are no frame: octets */
     SEDGE_EVENT_TICK = 12,        /* a tick of the ground's clock passes */
     SEDGE_EVENT_TAKE = 13,        /* a packet of sequence-controlled frames is taken on board */
-    SEDGE_EVENT_TAKE_BYPASS = 14, /* a packet that came past the sequence control is taken on board */
+    SEDGE_EVENT_TAKE_BYPASS = 14, /* a bypass packet is taken on board */
     SEDGE_EVENT_TELEMETRY = 15,   /* a packet is queued on board, to be sent as telemetry: octets */
-    SEDGE_EVENT_DOWN_CLCW = 16,   /* the first frame on its way down arrives, and its report alone reaches the ground */
-    SEDGE_EVENT_RESUME = 17       /* the ground goes on after an alert, by a report's value: value */
+    SEDGE_EVENT_DOWN_CLCW = 16,   /* the first frame in transit on the downlink arrives, and only its CLCW reaches
+                                   * the ground */
+    SEDGE_EVENT_RESUME = 17       /* the ground resumes after an alert, with a CLCW's value: value */
 };
 
-/* An event: its kind, then what that kind has; the rest is ignored. But octets is never null: for a kind without
- * octets it is the address of any octet, and count is 0. */
+/* An event: its kind, and the fields of that kind; the rest is ignored. But octets must never be null: for a kind
+ * without octets it is the address of any octet, and count is 0. */
 struct sedge_event {
     uint8_t kind;          /* of sedge_event_kind */
     uint8_t map;           /* the MAP */
     uint8_t directive;     /* of sedge_directive */
-    uint16_t value;        /* the directive's, as of sedge_ground_directive; or that of a report, by which the ground
-                            * resumes, 0 to 255 */
-    const uint8_t *octets; /* where they begin */
+    uint16_t value;        /* the directive's, as for sedge_ground_directive; or that of the CLCW with which the
+                            * ground resumes, 0 to 255 */
+    const uint8_t *octets; /* where the octets begin */
     size_t count;          /* the number of these */
 };
 
-/* Where the fields are for the proved archives, whose addresses have 64 bits. */
+/* The layout that the proved archives expect; their addresses have 64 bits. */
 typedef char sedge_event_is_laid_out[sizeof(uint8_t *) < 8 || (offsetof(struct sedge_event, map) == 1 &&
                                                                offsetof(struct sedge_event, directive) == 2 &&
                                                                offsetof(struct sedge_event, value) == 4 &&
@@ -541,14 +544,14 @@ typedef char sedge_event_is_laid_out[sizeof(uint8_t *) < 8 || (offsetof(struct s
                                          ? 1
                                          : -1];
 
-/* An event happens. Returns 0 and writes the reply; or a number of sedge_sim_fault, and nothing happens; or
- * SEDGE_NODE_NONE, also for a kind that is none, where sedge_ground_directive answers it to the directive and the
- * value, and for a value above 255 by which the ground is to resume. No directive, resumption, loss, damage, control
- * word by itself, tick or take answers SEDGE_SIM_MEMORY. What a node refuses is a reply. The octets of a frame that was
- * sent, and of a packet that was taken, stay to be read until the next event (sedge_sim_octets). */
+/* Lets an event happen. Returns 0 and writes the reply; or a number of sedge_sim_fault, and nothing happens; or
+ * SEDGE_NODE_NONE, also for a number that is not a kind, for a directive and a value if sedge_ground_directive returns
+ * it for them, and for a value above 255 with which the ground is to resume. No directive, resumption, loss, damage,
+ * CLCW by itself, tick or take returns SEDGE_SIM_MEMORY. A node's refusal is a reply. The octets of a frame that was
+ * sent, and of a packet that was taken, can be read until the next event (sedge_sim_octets). */
 SEDGE_CHECK uint8_t sedge_sim_step(struct sedge_sim *sim, const struct sedge_event *event, struct sedge_reply *reply);
 
-/* An event with octets, with none, that of a directive, and that the ground resumes. */
+/* An event with octets, one without, one for a directive, and one for a resumption of the ground. */
 static inline SEDGE_CHECK uint8_t sedge_sim_octets_event(struct sedge_sim *sim, uint8_t kind, uint8_t map,
                                                          const uint8_t *octets, size_t count,
                                                          struct sedge_reply *reply) {
@@ -650,38 +653,38 @@ static inline SEDGE_CHECK uint8_t sedge_sim_take_bypass(struct sedge_sim *sim, s
     return sedge_sim_event(sim, SEDGE_EVENT_TAKE_BYPASS, reply);
 }
 
-/* Writes the octets of the last event's frame or packet, of which the reply has the count, and their number; 0 octets
- * where the reply had none. They stay. Returns 0 or SEDGE_NODE_ROOM. */
+/* Writes the octets of the last event's frame or packet, and their number, which is the reply's count; or 0 octets if
+ * the reply had none. The octets stay. Returns 0 or SEDGE_NODE_ROOM. */
 SEDGE_CHECK uint8_t sedge_sim_octets(struct sedge_sim *sim, uint8_t *out, size_t room, size_t *count);
 
 /* How a session began. */
 enum sedge_begun {
-    SEDGE_BEGUN_NOT = 0, /* none has begun */
+    SEDGE_BEGUN_NOT = 0, /* no session has begun */
     SEDGE_BEGUN_WITHOUT_CHECK = 1,
     SEDGE_BEGUN_WITH_CHECK = 2,
     SEDGE_BEGUN_UNLOCK = 3,
     SEDGE_BEGUN_SET_VR = 4
 };
 
-/* What is known of the link and of its session, which begins with each initiation that the ground accepts. */
+/* What is known of the link and of its session. Each initiation that the ground accepts begins a session. */
 struct sedge_sim_reading {
     size_t outstanding;  /* the number of segments that were submitted and are not acknowledged */
-    size_t acknowledged; /* how many of the first ones of the frames sent the ground holds acknowledged */
-    uint8_t state;       /* of the ground's sender, of sedge_fop_state */
+    size_t acknowledged; /* how many of the frames sent, from the first on, the ground holds as acknowledged */
+    uint8_t state;       /* the state of the ground's sender, of sedge_fop_state */
     uint8_t begun;       /* of sedge_begun */
     uint8_t vr;          /* the number of Set V(R) */
-    bool clean;          /* it began with nothing on its way, and without a CLCW check only where V(R) was V(S) */
-    bool idle;           /* it had an idle start (docs/PROMISES.md) */
-    bool confirmed;      /* a report has taken the ground from S4 or S5 to S1 */
+    bool clean;          /* the session began with nothing in transit, and without a CLCW check only if V(R) was V(S) */
+    bool idle;           /* the session had an idle start (docs/PROMISES.md) */
+    bool confirmed;      /* a CLCW has taken the ground from S4 or S5 to S1 */
 };
 
-/* Reads the link: how the session began and how far it is. It stays as it was. Returns 0. */
+/* Reads the link: how the session began and how far it is. The link does not change. Returns 0. */
 uint8_t sedge_sim_read(struct sedge_sim *sim, struct sedge_sim_reading *read);
 
-/* Reads the link's ground, as sedge_ground_read reads a ground. The link stays as it was. Returns 0. */
+/* Reads the link's ground, as sedge_ground_read reads a ground. The link does not change. Returns 0. */
 uint8_t sedge_sim_ground_read(struct sedge_sim *sim, struct sedge_ground_reading *read);
 
-/* Reads the link's spacecraft, as sedge_spacecraft_read reads a spacecraft. The link stays as it was. Returns 0. */
+/* Reads the link's spacecraft, as sedge_spacecraft_read reads a spacecraft. The link does not change. Returns 0. */
 uint8_t sedge_sim_spacecraft_read(struct sedge_sim *sim, struct sedge_spacecraft_reading *read);
 
 /* Writes how many submissions the session has: the calls of sedge_sim_submit that the ground accepted. Returns 0. */
@@ -704,11 +707,12 @@ enum sedge_record {
     SEDGE_RECEIVED = 4   /* the data fields of Type-AD frames that were accepted on board */
 };
 
-/* Writes how many entries a record has, of sedge_record; the MAP counts for SEDGE_SUBMITTED and SEDGE_DELIVERED alone.
- * For another number there are none. Returns 0. */
+/* Writes how many entries a record has, of sedge_record; the MAP matters only for SEDGE_SUBMITTED and SEDGE_DELIVERED.
+ * For any other number there are none. Returns 0. */
 uint8_t sedge_sim_count(struct sedge_sim *sim, uint8_t record, uint8_t map, size_t *entries);
 
-/* Writes how many octets entry k has, counted from 0. Returns 0, or SEDGE_NODE_ABSENT if there are not that many. */
+/* Writes how many octets entry k has, counted from 0. Returns 0, or SEDGE_NODE_ABSENT if there are not so many
+ * entries. */
 SEDGE_CHECK uint8_t sedge_sim_entry_length(struct sedge_sim *sim, uint8_t record, uint8_t map, size_t k, size_t *count);
 
 /* Writes the octets of entry k, and their number. Returns 0, or the first of SEDGE_NODE_ABSENT and SEDGE_NODE_ROOM. */
@@ -804,7 +808,7 @@ SEDGE_CHECK uint8_t sedge_sim_entry(struct sedge_sim *sim, uint8_t record, uint8
 #define SEDGE_RECEIVED ((uint8_t)4)
 #endif
 
-/* ---- Names that go after 0.3: each call has another name now. ---- */
+/* ---- Names that will be removed after 0.3: each call has another name now. ---- */
 
 #define sedge_ground_report sedge_ground_clcw_in
 #define sedge_spacecraft_report sedge_spacecraft_telemetry_frame

@@ -677,9 +677,9 @@ static const unsigned char table_sedge_verdict_name[48] = {
 static uint32_t octets_frame_check_check(uint64_t p0, uint64_t p1);
 static uint32_t command_log_crc_check_after(uint32_t p0, uint64_t p1, uint64_t p2);
 static void command_log_record_spelled(uint64_t p0, uint64_t p1);
-static void command_log_record_front(uint64_t p0, uint64_t p1);
+static void command_log_record_encode_fields(uint64_t p0, uint64_t p1);
 static void sedgechisel_executor_copy_in(uint64_t p0, uint64_t p1, uint64_t p2);
-static void command_log_record_fields_at(uint64_t p0, uint64_t p1);
+static void command_log_record_decode_fields(uint64_t p0, uint64_t p1);
 static uint32_t core_cmp_slices_groups_equal_i8_31_core_cmp_numbers_U8PartialEq(uint64_t p0, uint64_t p1, uint64_t
     p2);
 static void sedgechisel_executor_fields_kept(uint64_t p0, uint64_t p1);
@@ -895,7 +895,7 @@ static uint32_t command_log_crc_check_after(uint32_t p0, uint64_t p1, uint64_t p
     return v11;
 }
 
-/* command_log::record::spelled, crates/command_log/src/record.rt:56 */
+/* command_log::record::spelled, crates/command_log/src/record.rt:57 */
 static void command_log_record_spelled(uint64_t p0, uint64_t p1)
 {
     unsigned char frame_octets[64 + 15];
@@ -909,7 +909,7 @@ static void command_log_record_spelled(uint64_t p0, uint64_t p1)
     put64(v2 + 40, 0);
     put64(v2 + 48, 0);
     put8(v2 + 56, 0);
-    command_log_record_front(v2 + 8, p1);
+    command_log_record_encode_fields(v2 + 8, p1);
     put64(v2 + 45, get64(v2 + 21));
     put64(v2 + 40, get64(v2 + 16));
     put64(v2 + 32, get64(v2 + 8));
@@ -922,8 +922,8 @@ static void command_log_record_spelled(uint64_t p0, uint64_t p1)
     return;
 }
 
-/* command_log::record::front, crates/command_log/src/record.rt:66 */
-static void command_log_record_front(uint64_t p0, uint64_t p1)
+/* command_log::record::encode_fields, crates/command_log/src/record.rt:68 */
+static void command_log_record_encode_fields(uint64_t p0, uint64_t p1)
 {
     uint32_t v2, v4, v5;
     uint64_t v3;
@@ -972,7 +972,7 @@ static void sedgechisel_executor_copy_in(uint64_t p0, uint64_t p1, uint64_t p2)
     put64(v3 + 136, 0);
     put64(v3 + 144, 0);
     if (p2 == 50) {
-        command_log_record_fields_at(v3 + 120, p1);
+        command_log_record_decode_fields(v3 + 120, p1);
         put8(v3 + 176, 0);
         put64(v3 + 168, 0);
         put64(v3 + 160, 0);
@@ -1025,8 +1025,8 @@ static void sedgechisel_executor_copy_in(uint64_t p0, uint64_t p1, uint64_t p2)
     return;
 }
 
-/* command_log::record::fields_at, crates/command_log/src/record.rt:119 */
-static void command_log_record_fields_at(uint64_t p0, uint64_t p1)
+/* command_log::record::decode_fields, crates/command_log/src/record.rt:123 */
+static void command_log_record_decode_fields(uint64_t p0, uint64_t p1)
 {
     uint32_t v3, v4, v5, v6;
     uint64_t v2, t1;
@@ -1377,7 +1377,7 @@ static uint64_t map_service_cutting_group_len(uint64_t p0, uint64_t p1, uint64_t
     return v13;
 }
 
-/* sedgechisel::command_frame::sedge_tc_decode, crates/sedgechisel/src/command_frame.rt:50 */
+/* sedgechisel::command_frame::sedge_tc_decode, crates/sedgechisel/src/command_frame.rt:51 */
 static uint32_t sedgechisel_command_frame_sedge_tc_decode(uint64_t p0, uint64_t p1, uint32_t p2, uint64_t p3, uint64_t
     p4)
 {
@@ -1561,7 +1561,7 @@ l2:;
     return;
 }
 
-/* tm_link::decoding::fields_of, crates/tm_link/src/decoding.rt:56 */
+/* tm_link::decoding::fields_of, crates/tm_link/src/decoding.rt:57 */
 static void tm_link_decoding_fields_of(uint64_t p0, uint64_t p1, uint64_t p2, uint32_t p3, uint32_t p4)
 {
     uint32_t v5, v6, v7, v8, v2, v3;
@@ -1672,7 +1672,7 @@ static void sedgechisel_executor_fields_described(uint64_t p0, uint64_t p1)
     return;
 }
 
-/* command_log::executor::Executor::moves_on, crates/command_log/src/executor.rt:147 */
+/* command_log::executor::Executor::moves_on, crates/command_log/src/executor.rt:148 */
 static void command_log_executor_Executor_moves_on(uint64_t p0)
 {
     uint64_t v2;
@@ -1700,7 +1700,7 @@ static void command_log_executor_Executor_moves_on(uint64_t p0)
     }
 }
 
-/* command_log::executor::Executor::pass, crates/command_log/src/executor.rt:177 */
+/* command_log::executor::Executor::pass, crates/command_log/src/executor.rt:178 */
 static void command_log_executor_Executor_pass(uint64_t p0, uint64_t p1)
 {
     uint32_t v3;
@@ -1967,7 +1967,7 @@ l11:;
     return;
 }
 
-/* sedge_alert_advice, crates/sedgechisel/src/names.rt:84 */
+/* sedge_alert_advice, crates/sedgechisel/src/names.rt:86 */
 static void sedge_alert_advice_at(uint64_t result, uint32_t alert)
 {
     unsigned char frame_octets[320 + 15];
@@ -2085,7 +2085,7 @@ l1:;
     return;
 }
 
-/* sedge_alert_shows_broken_condition, crates/sedgechisel/src/names.rt:73 */
+/* sedge_alert_shows_broken_condition, crates/sedgechisel/src/names.rt:74 */
 static uint32_t sedge_alert_shows_broken_condition_at(uint32_t alert)
 {
     return ((alert - 1) & 255) < 4;
@@ -2277,7 +2277,7 @@ l1:;
     return;
 }
 
-/* sedge_dropped_name, crates/sedgechisel/src/names.rt:143 */
+/* sedge_dropped_name, crates/sedgechisel/src/names.rt:145 */
 static void sedge_dropped_name_at(uint64_t result, uint32_t cause)
 {
     unsigned char frame_octets[16 + 15];
@@ -2304,7 +2304,7 @@ static void sedge_dropped_name_at(uint64_t result, uint32_t cause)
     return;
 }
 
-/* sedge_farm_ad, crates/sedgechisel/src/receiver.rt:44 */
+/* sedge_farm_ad, crates/sedgechisel/src/receiver.rt:45 */
 static uint32_t sedge_farm_ad_at(uint64_t farm, uint32_t n, uint32_t buffer_free)
 {
     uint32_t lockout, wait, retransmit, width, vr, v4, v2;
@@ -2344,7 +2344,7 @@ static uint32_t sedge_farm_ad_at(uint64_t farm, uint32_t n, uint32_t buffer_free
     return SEDGE_NO_BUFFER;
 }
 
-/* sedge_farm_bd, crates/sedgechisel/src/receiver.rt:74 */
+/* sedge_farm_bd, crates/sedgechisel/src/receiver.rt:75 */
 static uint32_t sedge_farm_bd_at(uint64_t farm)
 {
     uint32_t lockout, wait, retransmit, farm_b, width;
@@ -2365,7 +2365,7 @@ static uint32_t sedge_farm_bd_at(uint64_t farm)
     return SEDGE_OK;
 }
 
-/* sedge_farm_control_word, crates/sedgechisel/src/receiver.rt:109 */
+/* sedge_farm_control_word, crates/sedgechisel/src/receiver.rt:111 */
 static uint32_t sedge_farm_control_word_at(uint64_t farm, uint32_t vcid, uint64_t word)
 {
     uint32_t lockout, wait, retransmit, width, farm_b;
@@ -2404,7 +2404,7 @@ static uint32_t sedge_farm_open_at(uint64_t farm, uint32_t width, uint32_t vr)
     return v2 & 255;
 }
 
-/* sedge_farm_released, crates/sedgechisel/src/receiver.rt:98 */
+/* sedge_farm_released, crates/sedgechisel/src/receiver.rt:100 */
 static uint32_t sedge_farm_released_at(uint64_t farm)
 {
     uint32_t lockout, wait, retransmit, width;
@@ -2423,7 +2423,7 @@ static uint32_t sedge_farm_released_at(uint64_t farm)
     return SEDGE_OK;
 }
 
-/* sedge_farm_set_vr, crates/sedgechisel/src/receiver.rt:90 */
+/* sedge_farm_set_vr, crates/sedgechisel/src/receiver.rt:92 */
 static uint32_t sedge_farm_set_vr_at(uint64_t farm, uint32_t vr)
 {
     uint32_t lockout, wait, retransmit, farm_b, width, new_lockout;
@@ -2448,7 +2448,7 @@ static uint32_t sedge_farm_set_vr_at(uint64_t farm, uint32_t vr)
     return SEDGE_OK;
 }
 
-/* sedge_farm_state, crates/sedgechisel/src/receiver.rt:125 */
+/* sedge_farm_state, crates/sedgechisel/src/receiver.rt:127 */
 static uint32_t sedge_farm_state_at(uint64_t farm)
 {
     uint32_t lockout, wait, retransmit, width, v1;
@@ -2465,7 +2465,7 @@ static uint32_t sedge_farm_state_at(uint64_t farm)
     return v1;
 }
 
-/* sedge_farm_unlock, crates/sedgechisel/src/receiver.rt:82 */
+/* sedge_farm_unlock, crates/sedgechisel/src/receiver.rt:83 */
 static uint32_t sedge_farm_unlock_at(uint64_t farm)
 {
     uint32_t wait, retransmit, farm_b, width;
@@ -2484,7 +2484,7 @@ static uint32_t sedge_farm_unlock_at(uint64_t farm)
     return SEDGE_OK;
 }
 
-/* sedge_fop_open, crates/sedgechisel/src/sender.rt:60 */
+/* sedge_fop_open, crates/sedgechisel/src/sender.rt:62 */
 static uint32_t sedge_fop_open_at(uint64_t fop, uint32_t width, uint32_t window, uint32_t limit, uint32_t timer)
 {
     uint32_t v6, new_room;
@@ -2515,7 +2515,7 @@ static void sedge_gap_check_open_at(uint64_t check)
     return;
 }
 
-/* sedge_gap_check_see, crates/sedgechisel/src/packet.rt:116 */
+/* sedge_gap_check_see, crates/sedgechisel/src/packet.rt:117 */
 static uint32_t sedge_gap_check_see_at(uint64_t check, uint32_t apid, uint32_t count, uint64_t missing)
 {
     uint32_t v3;
@@ -2557,7 +2557,7 @@ static uint32_t sedge_log_command_encode_at(uint32_t apid, uint32_t count, uint3
     return SEDGE_OK;
 }
 
-/* sedge_log_fault_name, crates/sedgechisel/src/names.rt:133 */
+/* sedge_log_fault_name, crates/sedgechisel/src/names.rt:135 */
 static void sedge_log_fault_name_at(uint64_t result, uint32_t fault)
 {
     unsigned char frame_octets[16 + 15];
@@ -2584,7 +2584,7 @@ static void sedge_log_fault_name_at(uint64_t result, uint32_t fault)
     return;
 }
 
-/* sedge_log_history_after, crates/sedgechisel/src/executor/codecs.rt:158 */
+/* sedge_log_history_after, crates/sedgechisel/src/executor/codecs.rt:160 */
 static uint32_t sedge_log_history_after_at(uint32_t history, uint64_t packet, uint64_t count)
 {
     uint32_t v5;
@@ -2636,7 +2636,7 @@ static uint32_t sedge_log_new_record_at(uint64_t out, uint64_t room)
     return SEDGE_OK;
 }
 
-/* sedge_log_order_encode, crates/sedgechisel/src/executor/codecs.rt:120 */
+/* sedge_log_order_encode, crates/sedgechisel/src/executor/codecs.rt:121 */
 static uint32_t sedge_log_order_encode_at(uint64_t order, uint32_t apid, uint32_t count, uint64_t out, uint64_t room,
     uint64_t total)
 {
@@ -2745,7 +2745,7 @@ static void sedge_log_start_at(uint64_t log, uint64_t first, uint64_t first_coun
     return;
 }
 
-/* sedge_map_count, crates/sedgechisel/src/cutting.rt:40 */
+/* sedge_map_count, crates/sedgechisel/src/cutting.rt:41 */
 static uint32_t sedge_map_count_at(uint64_t octets, uint64_t count, uint64_t limits, uint64_t segments)
 {
     unsigned char frame_octets[48 + 15];
@@ -2773,7 +2773,7 @@ static uint32_t sedge_map_count_at(uint64_t octets, uint64_t count, uint64_t lim
     return v5 & 255;
 }
 
-/* sedge_map_fault_name, crates/sedgechisel/src/names.rt:125 */
+/* sedge_map_fault_name, crates/sedgechisel/src/names.rt:127 */
 static void sedge_map_fault_name_at(uint64_t result, uint32_t fault)
 {
     unsigned char frame_octets[32 + 15];
@@ -2838,7 +2838,7 @@ static uint32_t sedge_map_packet_at(uint64_t octets, uint64_t count, uint64_t pa
     return 1;
 }
 
-/* sedge_map_segment, crates/sedgechisel/src/cutting.rt:54 */
+/* sedge_map_segment, crates/sedgechisel/src/cutting.rt:56 */
 static uint32_t sedge_map_segment_at(uint64_t octets, uint64_t count, uint64_t limits, uint64_t k, uint64_t flags,
     uint64_t data)
 {
@@ -2961,7 +2961,7 @@ static uint32_t sedge_packet_encode_at(uint64_t packet, uint64_t data, uint64_t 
     return SEDGE_OK;
 }
 
-/* sedge_packet_fault_name, crates/sedgechisel/src/names.rt:105 */
+/* sedge_packet_fault_name, crates/sedgechisel/src/names.rt:107 */
 static void sedge_packet_fault_name_at(uint64_t result, uint32_t fault)
 {
     unsigned char frame_octets[16 + 15];
@@ -3038,7 +3038,7 @@ static void sedge_packet_fault_name_at(uint64_t result, uint32_t fault)
     return;
 }
 
-/* sedge_tc_declared, crates/sedgechisel/src/command_frame.rt:98 */
+/* sedge_tc_declared, crates/sedgechisel/src/command_frame.rt:100 */
 static uint32_t sedge_tc_declared_at(uint64_t octets, uint64_t count, uint32_t checked, uint64_t total)
 {
     uint64_t v2, v3;
@@ -3059,7 +3059,7 @@ static uint32_t sedge_tc_declared_at(uint64_t octets, uint64_t count, uint32_t c
     return SEDGE_TC_LENGTH;
 }
 
-/* sedge_tc_decode, crates/sedgechisel/src/command_frame.rt:50 */
+/* sedge_tc_decode, crates/sedgechisel/src/command_frame.rt:51 */
 static uint32_t sedge_tc_decode_at(uint64_t octets, uint64_t count, uint32_t checked, uint64_t frame, uint64_t data)
 {
     uint32_t t1;
@@ -3067,7 +3067,7 @@ static uint32_t sedge_tc_decode_at(uint64_t octets, uint64_t count, uint32_t che
     return t1 & 255;
 }
 
-/* sedge_tc_fault_name, crates/sedgechisel/src/names.rt:95 */
+/* sedge_tc_fault_name, crates/sedgechisel/src/names.rt:97 */
 static void sedge_tc_fault_name_at(uint64_t result, uint32_t fault)
 {
     unsigned char frame_octets[16 + 15];
@@ -3154,7 +3154,7 @@ l1:;
     return;
 }
 
-/* sedge_tm_builder_open, crates/sedgechisel/src/telemetry_builder.rt:44 */
+/* sedge_tm_builder_open, crates/sedgechisel/src/telemetry_builder.rt:45 */
 static uint32_t sedge_tm_builder_open_at(uint64_t builder, uint32_t scid, uint32_t vcid, uint64_t length)
 {
     if ((scid & 0xffff) > 0x3ff || (vcid & 255) > 7 || (length - 16) > 0x7f0) return SEDGE_TM_FIELD_RANGE;
@@ -3169,7 +3169,7 @@ static uint32_t sedge_tm_builder_open_at(uint64_t builder, uint32_t scid, uint32
     return SEDGE_OK;
 }
 
-/* sedge_tm_builder_queue, crates/sedgechisel/src/telemetry_builder.rt:79 */
+/* sedge_tm_builder_queue, crates/sedgechisel/src/telemetry_builder.rt:80 */
 static uint32_t sedge_tm_builder_queue_at(uint64_t builder, uint64_t packet, uint64_t count, uint64_t memory, uint64_t
     room)
 {
@@ -3342,7 +3342,7 @@ static uint32_t sedge_tm_encode_at(uint64_t frame, uint64_t data, uint64_t data_
     return SEDGE_OK;
 }
 
-/* sedge_tm_fault_name, crates/sedgechisel/src/names.rt:115 */
+/* sedge_tm_fault_name, crates/sedgechisel/src/names.rt:117 */
 static void sedge_tm_fault_name_at(uint64_t result, uint32_t fault)
 {
     unsigned char frame_octets[16 + 15];
@@ -3489,7 +3489,7 @@ static void sedge_version_at(uint64_t result)
     return;
 }
 
-/* sedge_tc_encode, crates/sedgechisel/src/command_frame.rt:73 */
+/* sedge_tc_encode, crates/sedgechisel/src/command_frame.rt:75 */
 static uint32_t sedge_tc_encode_at(uint64_t frame, uint64_t data, uint64_t data_count, uint32_t checked, uint64_t out,
     uint64_t room, uint64_t total)
 {
@@ -3646,7 +3646,7 @@ l9:;
     return SEDGE_OK;
 }
 
-/* sedge_log_done, crates/sedgechisel/src/executor.rt:121 */
+/* sedge_log_done, crates/sedgechisel/src/executor.rt:122 */
 static uint32_t sedge_log_done_at(uint64_t log, uint32_t action, uint32_t number)
 {
     unsigned char frame_octets[128 + 15];
@@ -3807,7 +3807,7 @@ l15:;
     return SEDGE_LOG_NOTHING;
 }
 
-/* sedge_log_next, crates/sedgechisel/src/executor.rt:75 */
+/* sedge_log_next, crates/sedgechisel/src/executor.rt:76 */
 static uint32_t sedge_log_next_at(uint64_t log, uint64_t out, uint64_t room, uint64_t number)
 {
     unsigned char frame_octets[192 + 15];
@@ -3886,7 +3886,7 @@ static uint32_t sedge_log_next_at(uint64_t log, uint64_t out, uint64_t room, uin
     return v5;
 }
 
-/* sedge_log_obey, crates/sedgechisel/src/executor.rt:169 */
+/* sedge_log_obey, crates/sedgechisel/src/executor.rt:170 */
 static uint32_t sedge_log_obey_at(uint64_t log, uint64_t octets, uint64_t count)
 {
     unsigned char frame_octets[128 + 15];
@@ -3967,7 +3967,7 @@ static uint32_t sedge_log_obey_at(uint64_t log, uint64_t octets, uint64_t count)
     return SEDGE_OK;
 }
 
-/* sedge_log_offer, crates/sedgechisel/src/executor.rt:143 */
+/* sedge_log_offer, crates/sedgechisel/src/executor.rt:144 */
 static uint32_t sedge_log_offer_at(uint64_t log, uint64_t octets, uint64_t count, uint64_t content)
 {
     unsigned char frame_octets[128 + 15];
@@ -4032,7 +4032,7 @@ static uint32_t sedge_log_offer_at(uint64_t log, uint64_t octets, uint64_t count
     }
 }
 
-/* sedge_log_status, crates/sedgechisel/src/executor.rt:186 */
+/* sedge_log_status, crates/sedgechisel/src/executor.rt:188 */
 static uint32_t sedge_log_status_at(uint64_t log, uint64_t waiting, uint64_t out, uint64_t room)
 {
     unsigned char frame_octets[144 + 15];
@@ -4115,7 +4115,7 @@ l5:;
     put8(v4 + 88, v8);
     put32(v4 + 84, v7);
     put32(v4 + 80, v6);
-    command_log_record_front(v4 + 112, v4 + 80);
+    command_log_record_encode_fields(v4 + 112, v4 + 80);
     put64(v4 + 67, get64(v4 + 125));
     put64(v4 + 62, get64(v4 + 120));
     put64(v4 + 54, get64(v4 + 112));
@@ -4147,7 +4147,7 @@ static uint32_t sedge_log_status_decode_at(uint64_t octets, uint64_t count, uint
     put64(v3 + 64, 0);
     v17 = some(octets);
     v5 = get8(v17);
-    command_log_record_fields_at(v3 + 64, v17 + 1);
+    command_log_record_decode_fields(v3 + 64, v17 + 1);
     v4 = get32(v3 + 64);
     switch (v5) {
     case 0:
@@ -4211,7 +4211,7 @@ l3:;
     put8(v3 + 72, v11);
     put32(v3 + 68, v10);
     put32(v3 + 64, v4);
-    command_log_record_front(v3 + 96, v3 + 64);
+    command_log_record_encode_fields(v3 + 96, v3 + 64);
     put64(v3 + 51, get64(v3 + 109));
     put64(v3 + 46, get64(v3 + 104));
     put64(v3 + 38, get64(v3 + 96));
@@ -4416,7 +4416,7 @@ static uint32_t sedge_tm_extractor_frame_at(uint64_t extractor, uint64_t frame, 
     return t1 & 255;
 }
 
-/* sedge_tm_extractor_frames, crates/sedgechisel/src/extracted_frames.rt:31 */
+/* sedge_tm_extractor_frames, crates/sedgechisel/src/extracted_frames.rt:33 */
 static uint64_t sedge_tm_extractor_frames_at(uint64_t extractor, uint64_t octets, uint64_t count, uint64_t
     frame_length, uint64_t memory, uint64_t memory_room, uint64_t out, uint64_t out_room, uint64_t packets, uint64_t
     packets_room, uint64_t total)
@@ -4733,7 +4733,7 @@ static uint64_t sedge_tm_extractor_frames_at(uint64_t extractor, uint64_t octets
     return v79;
 }
 
-/* sedge_fop_clcw, crates/sedgechisel/src/sender.rt:113 */
+/* sedge_fop_clcw, crates/sedgechisel/src/sender.rt:115 */
 static uint32_t sedge_fop_clcw_at(uint64_t fop, uint32_t vcid, uint64_t word, uint64_t released)
 {
     uint32_t state, v5, v6, waiting, vr, v9, new_control, control, count, timer, limit, due, sent, room, v4, vs, nn,
@@ -4997,7 +4997,7 @@ l1:;
     return v22;
 }
 
-/* sedge_fop_directive, crates/sedgechisel/src/sender/directive.rt:16 */
+/* sedge_fop_directive, crates/sedgechisel/src/sender/directive.rt:17 */
 static uint32_t sedge_fop_directive_at(uint64_t fop, uint32_t directive, uint32_t value)
 {
     uint32_t v3, v4, v5, v6, v7, v8, state, v2, v31, waiting, vr, v10, control, count, timer, limit, due, sent, room,
@@ -5280,7 +5280,7 @@ l23:;
     return SEDGE_OK;
 }
 
-/* sedge_fop_next, crates/sedgechisel/src/sender.rt:92 */
+/* sedge_fop_next, crates/sedgechisel/src/sender.rt:94 */
 static uint32_t sedge_fop_next_at(uint64_t fop, uint64_t number)
 {
     uint32_t state, v4, v5, waiting, vr, v8, control, count, timer, limit, due, sent, room, v15, vs, nn, v18, window,
@@ -5426,7 +5426,7 @@ l1:;
     return v22;
 }
 
-/* sedge_fop_submit, crates/sedgechisel/src/sender.rt:79 */
+/* sedge_fop_submit, crates/sedgechisel/src/sender.rt:81 */
 static uint32_t sedge_fop_submit_at(uint64_t fop)
 {
     uint32_t state, v3, waiting, vr, v6, new_control, control, sent, room, v10, vs, v12, ticks, v2, new_vr;
@@ -5524,7 +5524,7 @@ l14:; /* submission 3 */
     return SEDGE_OK;
 }
 
-/* sedge_fop_tick, crates/sedgechisel/src/sender.rt:140 */
+/* sedge_fop_tick, crates/sedgechisel/src/sender.rt:142 */
 static uint32_t sedge_fop_tick_at(uint64_t fop)
 {
     uint32_t state, v3, v4, waiting, vr, v7, new_control, control, count, timer, limit, due, sent, room, v15, vs, v17,
@@ -5683,7 +5683,7 @@ l1:;
     return v14;
 }
 
-/* sedge_tm_builder_build, crates/sedgechisel/src/telemetry_builder.rt:119 */
+/* sedge_tm_builder_build, crates/sedgechisel/src/telemetry_builder.rt:120 */
 static uint32_t sedge_tm_builder_build_at(uint64_t builder, uint64_t ocf, uint64_t ocf_count, uint64_t memory,
     uint64_t memory_count, uint64_t out, uint64_t room, uint64_t total)
 {
@@ -5884,7 +5884,7 @@ l29:;
     return SEDGE_OK;
 }
 
-/* sedge_tc_frames, crates/sedgechisel/src/command_frame.rt:120 */
+/* sedge_tc_frames, crates/sedgechisel/src/command_frame.rt:123 */
 static uint64_t sedge_tc_frames_at(uint64_t octets, uint64_t count, uint32_t checked, uint64_t out, uint64_t room,
     uint64_t total)
 {
@@ -5974,7 +5974,7 @@ static uint64_t sedge_tc_frames_at(uint64_t octets, uint64_t count, uint32_t che
     return v2;
 }
 
-/* sedge_accepted_beyond, crates/sedgechisel/src/sender/accepted.rt:35 */
+/* sedge_accepted_beyond, crates/sedgechisel/src/sender/accepted.rt:37 */
 static uint32_t sedge_accepted_beyond_at(uint32_t nn, uint32_t vs, uint32_t value, uint64_t accepted)
 {
     uint32_t v4;
@@ -5987,7 +5987,7 @@ static uint32_t sedge_accepted_beyond_at(uint32_t nn, uint32_t vs, uint32_t valu
     return SEDGE_OK;
 }
 
-/* sedge_fop_accepted_beyond, crates/sedgechisel/src/sender/accepted.rt:20 */
+/* sedge_fop_accepted_beyond, crates/sedgechisel/src/sender/accepted.rt:21 */
 static uint32_t sedge_fop_accepted_beyond_at(uint64_t fop, uint32_t value, uint64_t accepted)
 {
     uint32_t state, v5, waiting, vr, v8, control, sent, room, v11, vs, nn, v14, ticks, v4, v2;

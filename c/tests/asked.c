@@ -1,8 +1,8 @@
-/* The octets that nodes ask for, as docs/FLIGHT.md has them, over random configurations: `asked COUNT`. When a node is
- * opened, and at the first submission, the first packet past the sequence control, the first segment of a packet on
- * board, its last one, and the first packet of telemetry. A simulated link asks for those of both nodes and for a
- * number that is the same for all configurations. When all is closed no memory is held. Ends with 0 where all is so,
- * and writes the rows that docs/FLIGHT.md has to have of it. */
+/* Tests the octets that nodes request, as docs/FLIGHT.md states them, over random configurations: `asked COUNT`. They
+ * are requested when a node is opened, and at the first submission, the first packet sent by bypass, the first segment
+ * of a packet on board, its last segment, and the first packet of telemetry. A simulated link requests those of both
+ * nodes and a number that is the same for all configurations. When all is closed, no memory is held. Ends with 0 if all
+ * of this holds, and writes the rows that docs/FLIGHT.md must contain. */
 #include "memory.h"
 #include <sedgechisel_nodes.h>
 #include <stdint.h>

@@ -1,9 +1,8 @@
-/* A ground that plays against c/examples/board.c: `ground SEED COMMAND ..` runs the board as that command. Between them
- * are delays, and a link that loses a quarter of what goes either way and damages some of it. The sender goes through
- * sessions that end by Terminate and by Lockout, and goes on after each as docs/CONTROL.md says. What the board executes has
- * to be each packet of an open MAP once and in sequence, and just the packets past the sequence control that arrived;
- * its answers in telemetry have to be those of what it executed, and FARM-B what arrived. The status is 0 where all is
- * so. */
+/* A ground that runs against c/examples/board.c: `ground SEED COMMAND ..` runs the board as that command. Between them
+ * are delays, and a link that loses a quarter of the frames in each direction and damages some. The sender runs
+ * sessions that end by Terminate and by Lockout, and recovers after each as docs/CONTROL.md states. The board must
+ * execute each packet of an open MAP once and in sequence, and exactly the bypass packets that arrived. Its answers in
+ * telemetry must match what it executed, and FARM-B what arrived. The status is 0 if all of this holds. */
 #define _POSIX_C_SOURCE 200809L
 #include <sedgechisel.h>
 #include <signal.h>

@@ -1,7 +1,8 @@
-/* The time of calls does not grow with what waits: each queue that a program can make long is filled to some length and
- * to ten times that, and the same 300 pairs of calls, one that puts in and one that takes out, are timed at both. Ends
- * with 0 where the longer takes at most four times as long, the least of some tries each; a call that goes over all
- * that waits takes ten times as long. The time is that of the processor, since other programs run beside this one. */
+/* Tests that the time of calls does not grow with what waits. Each queue that a program can make long is filled to some
+ * length and to ten times that, and the same 300 pairs of calls, one that adds and one that takes, are timed at both.
+ * Ends with 0 if the longer queue takes at most four times as long, by the least of some tries each; a call that goes
+ * over all that waits would take ten times as long. The time is processor time, since other programs run at the same
+ * time. */
 #define _POSIX_C_SOURCE 199309L
 #include <sedgechisel_nodes.h>
 #include <stdio.h>

@@ -1,8 +1,8 @@
-/* In the places that c/tools/places.c lists for a configuration nothing is refused, as `listed COUNT` finds of as many
- * random configurations. A ground and a spacecraft are filled with the longest packets, in places of memory/static.c;
- * it says how many were used. Then packets of any length come to a spacecraft, the first of telemetry too, in these
- * places and in a tenth less of each size; it says how often a call was refused in the latter, which has to be at
- * times. */
+/* Tests that nothing is refused in the places that c/tools/places.c lists for a configuration: `listed COUNT`, for
+ * COUNT random configurations. A ground and a spacecraft are filled with the longest packets, in places of
+ * memory/static.c; the program prints how many were used. Then packets of any length arrive at a spacecraft, also the
+ * first of telemetry, in these places and in a tenth less of each size. The program prints how often a call was refused
+ * in the latter, which must happen sometimes. */
 #define main main_of_places
 #include "../tools/places.c"
 #undef main

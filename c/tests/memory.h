@@ -1,6 +1,6 @@
-/* What a test knows of the memory that the library takes from a file of c/memory: which allocations there were, and
- * which were refused. The linker puts these functions before that file's, by -Wl,--wrap=rattle_alloc and the same of
- * the other two. A test that includes this says in is_refused() whether the next allocation is refused. */
+/* Tells a test which allocations the library requested from a file of c/memory, and which were refused. The linker puts
+ * these functions before those of that file, by -Wl,--wrap=rattle_alloc and likewise for the other two. A test that
+ * includes this file decides in is_refused() whether the next allocation is refused. */
 #ifndef MEMORY_H
 #define MEMORY_H
 

@@ -1,5 +1,5 @@
-/* A program of version 0.2, with the declarations that it had: the struct that sedge_ground_read writes has grown since. Its
- * status is 0, where it is started. With -DLIBRARY it is a library of that version, of this call alone. */
+/* A program of version 0.2, with the declarations that it had: the struct that sedge_ground_read writes has grown
+ * since. Its status is 0 if it starts. With -DLIBRARY it is a library of that version, with only this call. */
 #include <stddef.h>
 #include <stdint.h>
 

@@ -1,8 +1,8 @@
-/* A program that keeps to the headers: what a call only writes has not been written before, and is used once the call
- * has answered that it is. Each call of both headers that writes is here. gcc compiles it together with the libraries
- * (-flto -Wall -Wextra -Werror) in two ways, and has nothing to warn of: as it is; and with -DAPART=, so that calls are
- * compiled into it, and -DHIDDEN, so that gcc does not see where the program itself uses something. What it warned of
- * then would be a library that reads what is not written. Run, the program ends with 0. */
+/* A program that conforms to the headers: what a call only writes has not been written before, and is used only after
+ * the call has answered that it is written. Each call of both headers that writes is here. gcc compiles it together
+ * with the libraries (-flto -Wall -Wextra -Werror) in two ways, and has nothing to warn of: as it is; and with
+ * -DAPART=, so that calls are compiled into it, and -DHIDDEN, so that gcc does not see where the program itself uses
+ * something. What it warned of then would be a library that reads what is not written. Run, the program ends with 0. */
 #include "sedgechisel_nodes.h"
 
 #ifdef HIDDEN

@@ -1,7 +1,7 @@
-/* What the portable C reads, writes and moves memory with, by octets written by hand: numbers of each length at places
- * that nothing divides, lowest octet first on every machine; octets that overlap; signs; and the room of a frame. It
- * takes in the text that stands before the functions, tools/portable_c.head.c. Ends with 0 where all is as wanted, and
- * says each line that is not. */
+/* Tests how the portable C reads, writes and moves memory, by octets written by hand: numbers of each length at
+ * unaligned addresses, lowest octet first on every machine; octets that overlap; signs; and the room of a frame. It
+ * includes the text before the functions, tools/portable_c.head.c. Ends with 0 if all is as expected, and prints each
+ * line that is not. */
 #include "portable_c.head.c"
 #include <stdio.h>
 

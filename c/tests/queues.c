@@ -1,6 +1,6 @@
-/* Queues of both nodes and records of the link that grow past 100 kB each: what is put in comes out, octet for octet
- * and in order, and no call answers that there was no memory. It runs over each file of c/memory. Ends with 0 where all
- * is so, and says what is not. */
+/* Tests queues of both nodes and records of the link that grow above 100 kB each. What goes in comes out, octet for
+ * octet and in order, and no call answers that it is out of memory. It runs over each file of c/memory. Ends with 0 if
+ * all of this holds, and prints what does not. */
 #include "memory.h"
 #include <sedgechisel_nodes.h>
 #include <stdint.h>

@@ -1,7 +1,7 @@
-/* Random structs and octets, given to every call that reads them: `random COUNT`. Each returns one of its numbers; a
- * call that refuses has written nothing, and one that writes octets has written those that it says. Octets and
- * structs end where a page begins that may not be touched. Ends with 0 where all is as wanted, and says what is not.
- * */
+/* Random structs and octets, given to every call that reads them: `random COUNT`. Each returns one of its numbers. A
+ * call that refuses has written nothing, and one that writes octets has written as many as it states. Octets and
+ * structs end where a page begins that must not be accessed. Ends with 0 if all is as expected, and prints what is
+ * not. */
 #define _DEFAULT_SOURCE
 #include "none.h"
 #include <stdio.h>

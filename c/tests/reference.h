@@ -1,5 +1,5 @@
-/* A second statement of the core in C: FARM-1, FOP-1, the control word and the decoders, written apart from the crates
- * and as plainly as it goes. c/check_equal and c/fuzz compare the portable C with it. */
+/* A second statement of the core in C: FARM-1, FOP-1, the CLCW and the decoders, written independently of the crates
+ * and as plainly as possible. c/check_equal and c/fuzz compare the portable C with it. */
 #ifndef REFERENCE_H
 #define REFERENCE_H
 #include "sedgechisel.h"

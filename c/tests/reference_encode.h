@@ -1,4 +1,4 @@
-/* The second statement of the core in C goes on: what writes frames and packets (232.0-B-4, 4.1; 133.0-B-2, 4.1;
+/* The second statement of the core in C, continued: what writes frames and packets (232.0-B-4, 4.1; 133.0-B-2, 4.1;
  * 132.0-B-3, 4.1), and the FECF of octets. Written apart from the crates, from docs/PROFILE.md and the header. */
 #ifndef REFERENCE_ENCODE_H
 #define REFERENCE_ENCODE_H

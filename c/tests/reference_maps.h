@@ -1,4 +1,4 @@
-/* The second statement of the core in C goes on: packets in segments (232.0-B-4, 4.1.3.2.2). Written
+/* The second statement of the core in C, continued: packets in segments (232.0-B-4, 4.1.3.2.2). Written
  * apart from the crates, from docs/PROFILE.md and the header. */
 #ifndef REFERENCE_MAPS_H
 #define REFERENCE_MAPS_H

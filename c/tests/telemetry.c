@@ -1,6 +1,6 @@
 /* Packets in telemetry frames as a program in C builds and extracts them, with no heap: rows worked by hand, packets
- * over many frames, lost frames, each refusal with nothing changed, and damaged structs and memory. Ends with 0 where
- * all is as wanted, and says each line that is not. */
+ * over many frames, lost frames, each refusal with nothing changed, and damaged structs and memory. Ends with 0 if
+ * all is as expected, and prints each line that is not. */
 #include <sedgechisel.h>
 #include <stdio.h>
 #include <string.h>

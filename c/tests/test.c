@@ -1,5 +1,5 @@
-/* The library as a program in C meets it: rows worked by hand, vectors from outside, the receiver's table, each
- * refusal by its number, and damaged structs. Ends with 0 where all is as wanted, and says each line that is not. */
+/* Tests the library as a C program uses it: rows worked by hand, vectors from other sources, the receiver's table, each
+ * refusal by its number, and damaged structs. Ends with 0 if all is as expected, and prints each line that is not. */
 #include "none.h"
 #include <stdio.h>
 #include <string.h>

@@ -1,5 +1,5 @@
-/* The texts of sedgechisel_faults.h beside the words of both libraries: for each number that has a text, it begins with
- * the number and its word, and each number that has a word has a text. Ends with 1 where one differs. */
+/* Compares the texts of sedgechisel_faults.h with the words of both libraries: each text begins with its number and the
+ * number's word, and each number that has a word has a text. Ends with 1 if one differs. */
 #include <sedgechisel_faults.h>
 #include <sedgechisel_nodes.h>
 #include <stdio.h>

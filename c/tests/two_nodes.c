@@ -1,6 +1,6 @@
-/* Two spacecraft in static places: SEDGE_PLACES has each count that `places` prints for one of them twice. Random frames,
- * packets and telemetry come to both in turns, CALLS times; no call may be refused for memory. The configuration is that of
- * CONFIG in c/check_nodes. */
+/* Two spacecraft in static places: SEDGE_PLACES has each count that `places` prints for one of them twice. Random
+ * frames, packets and telemetry come to both in turn, CALLS times; no call may be refused because memory runs out. The
+ * configuration is that of CONFIG in c/check_nodes. */
 #include <sedgechisel.h>
 #include <sedgechisel_memory.h>
 #include <sedgechisel_nodes.h>

@@ -1,6 +1,6 @@
-/* Tests the functions that c/portable/tctool.c has by hand: for numbers of 128 bits and with a fraction, beside those of
- * the compiler, since no row needs most of them; and with SIXTEEN, where it has that function, the digits of each octet
- * at each of sixteen places. It says which fails, and ends with status 1. */
+/* Tests the handwritten functions of c/portable/tctool.c: those for numbers of 128 bits and with a fraction, compared
+ * with the compiler's, since no row needs most of them; and with SIXTEEN, if that function exists, the digits of each
+ * octet at each of sixteen positions. If one fails, it prints which, and ends with status 1. */
 #define PART 0
 #include "../portable/tctool.c"
 

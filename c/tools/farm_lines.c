@@ -1,5 +1,5 @@
-/* The lines of `tctool farm`, by the library: what a receiver makes of each frame of standard input, and its
- * state after it. The words are the window width, V(R) at first, and whether frames end with their check, 0 or 1. */
+/* Writes the lines of `tctool farm`, by the library: what a receiver does with each frame of standard input, and its
+ * state after it. The arguments are the window width, the first V(R), and whether frames end with an FECF, 0 or 1. */
 #include <sedgechisel.h>
 #include <stdio.h>
 #include <stdlib.h>

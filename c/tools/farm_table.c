@@ -1,4 +1,4 @@
-/* Writes the table of the receiver FARM-1, tables/farm.csv, of what the calls of the library do: with each width, in
+/* Writes the table of the receiver FARM-1, tables/farm.csv, from what the calls of the library do: with each width, in
  * each state with all flags that it can have, for each number of a frame (CCSDS 232.1-B-2, 6 and table 6-1). */
 #include <sedgechisel.h>
 #include "table.h"

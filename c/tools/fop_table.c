@@ -1,4 +1,4 @@
-/* Writes the table of the sender FOP-1, tables/fop.csv, of what the calls of the library do: in each state, with many
+/* Writes the table of the sender FOP-1, tables/fop.csv, from what the calls of the library do: in each state, with many
  * values of each number, for each event of docs/PROFILE.md (CCSDS 232.1-B-2, 5 and table 5-1). */
 #include <sedgechisel.h>
 #include "table.h"

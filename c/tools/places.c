@@ -1,14 +1,14 @@
-/* Prints the static places that a configuration takes, as docs/FLIGHT.md has them: `places NODE NAME=VALUE ..`.
+/* Prints the static places that a configuration takes, as docs/FLIGHT.md lists them: `places NODE NAME=VALUE ..`.
  *
  * NODE is `ground` or `spacecraft`, over c/memory/static.c: the value of SEDGE_PLACES is printed in one line. Or it is
  * `board`, a receiver on board over the library without heap: a line for each place, with its octets, its alignment,
  * how many there are, and what it is.
  *
- * NAME is a managed parameter; one that is not given has its default. Or it is one of these, by default 0 but for the
- * first two, which are 1:
+ * NAME is a managed parameter; a missing one has its default. Or it is one of these, by default 0 except the first
+ * two, which are 1:
  *     packets           the most packets of a submission of the ground
  *     segments          the most segments of a submission; at least as many as the longest packet has
- *     bypass            the most segments past the sequence control that wait on the ground
+ *     bypass            the most bypass segments that wait on the ground
  *     telemetry         the most packets of telemetry that wait
  *     telemetry_octets  the octets of the longest of these */
 #include <sedgechisel_nodes.h>

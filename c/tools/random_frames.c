@@ -1,6 +1,6 @@
 /* Writes random telecommand frames: Type-AD frames mostly in sequence, Type-BD frames and control commands among them,
- * and one in sixteen damaged after its length. The words are the number of frames, and whether they end with their check, 0 or 1.
- * The same words give the same frames. */
+ * and one in sixteen damaged after its length. The arguments are the number of frames, and whether they end with an
+ * FECF, 0 or 1. The same arguments give the same frames. */
 #include <sedgechisel.h>
 #include <stdio.h>
 #include <stdlib.h>

@@ -1,5 +1,5 @@
-/* A table of a machine, of what its calls did: each call that was tried is seen in one cell, and a cell says of each
- * field of the machine the word that was true of it each time. */
+/* Makes the table of a machine from what its calls did. Each call that was tried belongs to one cell, and a cell states
+ * for each field of the machine the word that was true of it each time. */
 #include <stdbool.h>
 #include <stdint.h>
 #include <stdio.h>

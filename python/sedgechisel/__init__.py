@@ -7,19 +7,19 @@
   in telemetry frames (`TmBuilder`, `TmExtractor`). `GapCheck` counts missing packets.
 - Nodes: the ground (`Ground`) and the spacecraft (`Spacecraft`), with their queues, and the simulated link between them
   (`Link`).
-- Commands over restarts: the board's half (`Executor`), and the status, the commands and the orders of the ground
-  (`BoardStatus`, `command_packet`, `restart_order`, `rebuild_order`, `history_after`).
+- Commands over restarts: the board's part (`Executor`), and the ground's status, commands and orders (`BoardStatus`,
+  `command_packet`, `restart_order`, `rebuild_order`, `history_after`).
 - Files: `read_frames` reads telemetry frames.
-- Old names, which give a DeprecationWarning and will be removed after 0.3: `Farm.report` (now `control_word`),
+- Old names, which cause a DeprecationWarning and will be removed after 0.3: `Farm.report` (now `control_word`),
   `Fop.report` (now `clcw`), `Ground.report_in` (now `clcw_in`), `Spacecraft.report` (now `telemetry_frame`),
   `Report.NONE` and `Report.OTHER` (now `REFUSED` and `OTHER_CHANNEL`).
 
-Octets that a call takes are `bytes`, `bytearray` or `memoryview` (`Octets`), and those that it returns are `bytes`.
-What the library refuses raises a `Fault` of the class for its kind, with the number and the name that the C headers
-give it, and its meaning. The number is a member of an enumeration: `fault.number is TcFault.Number.CHECK`. `take` and
-`take_all` return named tuples. The fields of structs are those of the C headers; a number that does not fit its field
-raises an OverflowError. The standards are CCSDS 133.0-B-2 (space packets), 132.0-B-3 (telemetry), 232.0-B-4
-(telecommand) and 232.1-B-2 (COP-1)."""
+Octets that a call takes are `bytes`, `bytearray` or `memoryview` (`Octets`), and those that it returns are `bytes`. A
+call that the library refuses raises a `Fault` of the class for its kind, with the number and the name in the C headers,
+and the meaning. The number is a member of an enumeration: `fault.number is TcFault.Number.CHECK`. `take` and `take_all`
+return named tuples. The fields of structs are those of the C headers; a number that does not fit its field raises an
+OverflowError. The standards are CCSDS 133.0-B-2 (space packets), 132.0-B-3 (telemetry), 232.0-B-4 (telecommand) and
+232.1-B-2 (COP-1)."""
 from ._calls import (
     NO_START, ONLY_IDLE, Alert, Assembled, Clcw, Command, Control, Extracted, Farm, Flags, Fop, GapCheck, Kind, Map, Mode,
     Next, Packet, PacketKind, Segment, SequenceFlags, State, TakenFrame, TcFrame, TmBuilder, TmExtractor, TmFrame, Verdict,

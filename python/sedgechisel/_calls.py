@@ -30,8 +30,8 @@ def _call(name: str, answer: Any, *kinds: Any) -> Callable[..., Any]:
 
 
 class _Struct:
-    """A struct of the C header. It compares by its fields, shows them, and accepts no number that does not fit. Its
-    memory, a struct of ctypes, is its own: a buffer of that would give octets that are not those on the link."""
+    """A struct of the C header. It compares by its fields, shows them, and accepts no number that does not fit. It does
+    not expose its memory, a struct of ctypes, as a buffer, because those octets are not the octets on the link."""
 
     __slots__ = ("_memory",)
     _fields_: Any
@@ -87,7 +87,7 @@ def _copied(cls: Type[_Own], memory: bytes) -> _Own:
 
 
 def _structs_with(cls: Any, memories: Sequence[Any]) -> List[Any]:
-    """Returns the structs that have these memories."""
+    """Returns the structs over these pieces of memory."""
     structs = [*map(cls.__new__, repeat(cls, len(memories)))]
     for struct, memory in zip(structs, memories):
         struct._memory = memory
@@ -95,8 +95,8 @@ def _structs_with(cls: Any, memories: Sequence[Any]) -> List[Any]:
 
 
 def _typed(**fields: Dict[int, Any]) -> Callable[[Type[_Own]], Type[_Own]]:
-    """Makes one-octet fields return members, by their numbers. A number that has no member, which only a caller can
-    have set, stays a number."""
+    """Makes one-octet fields return members of enumerations. A number without a member, which only a caller can have
+    set, stays a number."""
     def made(struct: Type[_Own]) -> Type[_Own]:
         for name, members in fields.items():
             field, of_all = getattr(struct, name), tuple(members.get(number, number) for number in range(256))
@@ -161,7 +161,7 @@ def check_holds(octets: Octets) -> bool:
 
 
 class Flags(_Bits):
-    """The flags of a control word, bits of `Clcw.flags` (4.2.1.8), as in `Flags.WAIT in word.flags`."""
+    """The flags of a CLCW, bits of `Clcw.flags` (4.2.1.8), as in `Flags.WAIT in word.flags`."""
 
     RETRANSMIT, WAIT, LOCKOUT, NO_BIT_LOCK, NO_RF = 0x08, 0x10, 0x20, 0x40, 0x80
 
@@ -178,7 +178,7 @@ def _flag(name: str, bit: Flags, note: str) -> Any:
 class Clcw(_Struct):
     """A communications link control word (232.0-B-4, 4.2).
 
-    - `status`, 0 to 7, is carried and not interpreted; `vcid`, 0 to 63, is the channel that is reported on
+    - `status`, 0 to 7, is carried and not interpreted; `vcid`, 0 to 63, is the channel that the CLCW reports on
     - `flags`, a Flags; `no_rf`, `no_bit_lock`, `lockout`, `wait` and `retransmit` are its flags, each True or False
     - `farm_b`, the FARM-B counter, 0 to 3; `value`, the report value, V(R) of the receiver"""
 
@@ -221,7 +221,7 @@ _clcw_encode = _call("clcw_encode", c_uint8, POINTER(Clcw._C), c_char_p, c_size_
 
 
 def _answered(kind: Type[_Member], answer: int) -> _Member:
-    """Returns what a receiver or a sender answers. Raises CopFault 255 if it answers that it is damaged."""
+    """Returns the result of a receiver or a sender. Raises CopFault 255 if the result is that it is damaged."""
     CopFault._look_at(answer == _DAMAGED and answer)
     return kind(answer)
 
@@ -266,12 +266,12 @@ class Farm(_Struct):
         CopFault._look_at(_farm_open(self._memory, width, vr))
 
     def ad(self, n: int, buffer_free: bool = True) -> Verdict:
-        """Takes a Type-AD frame with N(S) = `n`; `buffer_free` says whether there is room for its data. Returns the
-        Verdict. If that is ACCEPTED, pass the data on."""
+        """Takes a Type-AD frame with N(S) = `n`; `buffer_free` states whether there is room for its data. Returns the
+        Verdict. If it is ACCEPTED, pass on the data."""
         return _answered(Verdict, _farm_ad(self._memory, n, buffer_free))
 
     def bd(self) -> None:
-        """Takes a Type-BD frame. Pass its data on in every state."""
+        """Takes a Type-BD frame. Pass on its data in every state."""
         CopFault._look_at(_farm_bd(self._memory))
 
     def unlock(self) -> None:
@@ -283,12 +283,12 @@ class Farm(_Struct):
         CopFault._look_at(_farm_set_vr(self._memory, vr))
 
     def released(self) -> None:
-        """Notes that there is room on board again."""
+        """Records that there is room on board again."""
         CopFault._look_at(_farm_released(self._memory))
 
     def control_word(self, vcid: int) -> Clcw:
-        """Returns the Clcw that reports the receiver as it is, for a virtual channel. Raises ClcwFault unless `vcid` <
-        64."""
+        """Returns the Clcw that reports the receiver's present state, for a virtual channel. Raises ClcwFault unless
+        `vcid` < 64."""
         word = Clcw._C()
         ClcwFault._look_at(_farm_control_word(self._memory, vcid, word))
         return Clcw._of(word)
@@ -324,8 +324,8 @@ class Alert(_Numbers):
     - TIMER: the timer has run out, and units may not be retransmitted
     - TERMINATED: the directive Terminate
 
-    `shows_a_broken_condition` says which of two ways to recover applies, and `advice` what to look for. `word` is what
-    tctool prints, such as "NnR" for NNR; for NONE it is empty."""
+    `shows_a_broken_condition` states which of two ways to recover applies, and `advice` states what to look for. `word`
+    is what tctool prints, such as "NnR" for NNR; for NONE it is empty."""
 
     NONE, LOCKOUT, NNR, CLCW, SYNCH, LIMIT, TIMER, TERMINATED = range(8)
 
@@ -339,9 +339,10 @@ class Alert(_Numbers):
         """Whether the alert shows that a condition of the link is broken: True for LOCKOUT, NNR, CLCW and SYNCH. In a
         confirmed session that was begun by CLCW check, Unlock or Set V(R), none of these is raised while the conditions
         hold, so the spacecraft has restarted, the link reorders or repeats frames, or there is a second station. Before
-        a session is confirmed, the cause may also be what an earlier one left, such as a receiver in Lockout. After one
-        of these alerts nothing is known of what is on board until a session begins (docs/CONTROL.md, "After a reset").
-        After any other alert, `Ground.resume` begins the next session (docs/CONTROL.md, "After an alert")."""
+        a session is confirmed, the cause may also be something that an earlier session left behind, such as a receiver
+        in Lockout. After one of these alerts nothing is known of what is on board until a session begins
+        (docs/CONTROL.md, "After a reset"). After any other alert, `Ground.resume` begins the next session
+        (docs/CONTROL.md, "After an alert")."""
         return bool(_alert_shows_broken_condition(self))
 
     @property
@@ -373,7 +374,8 @@ class Control(_Numbers):
 
 
 class Next(_Numbers):
-    """What goes on the link next: a control command, the unit that waits, or the unit kept under the number."""
+    """What is to be sent next on the link: a control command, the unit that waits, or the unit kept under the
+    number."""
 
     NOTHING, UNLOCK, SET_VR, FIRST, AGAIN = range(5)
 
@@ -391,7 +393,7 @@ class Directives:
         self._direct("init_without_check")
 
     def init_with_check(self) -> None:
-        """Directive: initiate with CLCW check: S6 to S4, until a report agrees; CopFault 8 WrongState unless in S6."""
+        """Directive: initiate with CLCW check: S6 to S4, until a CLCW agrees; CopFault 8 WrongState unless in S6."""
         self._direct("init_with_check")
 
     def init_unlock(self) -> None:
@@ -404,7 +406,7 @@ class Directives:
         self._direct("init_set_vr", "vr", vr)
 
     def terminate(self) -> None:
-        """Directive: terminate: to S6 with the alert Terminated, which lets go of all units; CopFault 8 WrongState in
+        """Directive: terminate: to S6 with the alert Terminated, which discards all units; CopFault 8 WrongState in
         S6."""
         self._direct("terminate")
 
@@ -430,7 +432,8 @@ _DIRECTIVES = {name: number for number, name in enumerate((it for it in vars(Dir
 
 
 def _directive(name: str, own: str, value: int, kind: Any) -> Tuple[int, int]:
-    """Returns the number of a directive, and its value, which has this name and type; the value is 0 if it has none."""
+    """Returns the number of a directive, and its value: the argument of this name and type, or 0 for a directive
+    without a value."""
     _within(own, kind, value)
     return _DIRECTIVES[name], value
 
@@ -470,17 +473,17 @@ class Fop(_Struct, Directives):
         CopFault._look_at(_fop_directive(self._memory, *_directive(name, own, value, kind)))
 
     def submit(self) -> None:
-        """Takes a unit, which then waits. Raises CopFault 6 (not open) or 7 (one waits already)."""
+        """Takes a unit, which then waits. Raises CopFault 6 (not open) or 7 (another unit waits already)."""
         CopFault._look_at(_fop_submit(self._memory))
 
     def next(self) -> Tuple[Next, int]:
-        """Takes what goes on the link next. Returns its Next and its number."""
+        """Takes what is to be sent on the link next. Returns its Next and its number."""
         number = c_uint8()
         return _answered(Next, _fop_next(self._memory, number)), number.value
 
     def clcw(self, vcid: int, word: Clcw) -> Optional[Tuple[Alert, int]]:
         """Takes a Clcw, as the sender of the virtual channel `vcid`. Returns the Alert, and how many of the oldest
-        units are acknowledged. Returns None, and changes nothing, if the word is about another channel."""
+        units are acknowledged. Returns None, and changes nothing, if the CLCW reports on another channel."""
         released = c_uint8()
         answer = _fop_clcw(self._memory, vcid, _struct_of("word", Clcw, word)._memory, released)
         return None if answer == _ABSENT else (_answered(Alert, answer), released.value)
@@ -494,17 +497,17 @@ class Fop(_Struct, Directives):
     def accepted_beyond(self, value: int) -> Optional[int]:
         """Returns how many of the sent and unacknowledged units, oldest first, had been accepted on board when a CLCW
         with this value was made. Returns 0 if V(S) = NN(R), whatever the value; otherwise None if the value is beyond
-        V(S), because nothing is known of them. Also answers after an alert, in S6, until V(S) is set or an initiation
-        begins (5.1), but by the numbers only: after an alert that shows a broken condition nothing is known of the
-        units, whatever this returns."""
+        V(S), because nothing is then known of these units. Works after an alert too, in S6, until V(S) is set or an
+        initiation begins (5.1). Uses only the numbers: after an alert that shows a broken condition nothing is known of
+        the units, whatever this returns."""
         return _accepted_of(_fop_accepted_beyond, self._memory, value)
 
 
 def accepted_beyond(nn: int, vs: int, value: int) -> Optional[int]:
     """Returns how many of the sent and unacknowledged units of a sender with these NN(R) and V(S), oldest first, had
     been accepted on board when a CLCW with this value was made. Returns 0 if V(S) = NN(R), whatever the value;
-    otherwise None if the value is beyond V(S), because nothing is known of them. `Fop` and `Ground` have a method of
-    this name for their own numbers."""
+    otherwise None if the value is beyond V(S), because nothing is then known of these units. `Fop` and `Ground` have a
+    method of this name for their own numbers."""
     return _accepted_of(_accepted_beyond, nn, vs, value)
 
 
@@ -536,7 +539,7 @@ class Kind(_Numbers):
 
 
 class Segment(_Numbers):
-    """The part of a packet that a segment is (4.1.3.2.2.2)."""
+    """The position of a segment in the packet that it is part of (4.1.3.2.2.2)."""
 
     CONTINUING, FIRST, LAST, ALONE = range(4)
 
@@ -587,21 +590,21 @@ class TcFrame(_Struct):
         """Reads consecutive frames in the octets, each as long as it declares. Yields for each the frame and its data,
         as `decode` returns them, or its TcFault and its octets instead. With `scid` or `vcid`, yields only frames whose
         header names this spacecraft or virtual channel, refused ones too. If octets are left after the last whole
-        frame, yields them at the end, with TcFault 1 for fewer than 5, or else TcFault 5; no frame before has either.
-        Raises OverflowError for a number that no header has."""
+        frame, yields them at the end, with TcFault 1 for fewer than 5 octets, or else TcFault 5; no earlier frame has
+        either fault. Raises OverflowError for a number that no header has."""
         return chain.from_iterable(_frames_in(cls, _octets_of("octets", octets), checked, [
             *_wanted("scid", scid, 0x3FF, ((0, 255, 0), (1, 3, 8))), *_wanted("vcid", vcid, 0x3F, ((2, 63, 0),))]))
 
     def encode(self, data: Octets = b"", checked: bool = True) -> bytes:
-        """Returns the octets of the frame with these data: at most 1,024, with its FECF, which it lacks if `checked` is
+        """Returns the octets of the frame with these data, at most 1,024, ending with its FECF unless `checked` is
         False. Raises TcFault if a field is out of range."""
         data = _octets_of("data", data)
         return _written(TcFault._look_at, _tc_encode, 1024, self._memory, data, len(data), checked)
 
     @staticmethod
     def declared(octets: Octets, checked: bool = True) -> int:
-        """Returns the length of the frame that these octets begin, with its FECF unless `checked` is False. Raises
-        TcFault 1 for fewer than 5 octets, or 5."""
+        """Returns the length of the frame that begins with these octets, with its FECF unless `checked` is False.
+        Raises TcFault 1 for fewer than 5 octets, or 5."""
         octets = _octets_of("octets", octets)
         return _count_of(_tc_declared, TcFault, octets, len(octets), checked)
 
@@ -648,8 +651,8 @@ _Wanted = Tuple[int, bytes]  # a place in a record, and a table with 1 for each 
 
 
 def _wanted(name: str, number: Optional[int], most: int, parts: Iterable[Tuple[int, int, int]]) -> Iterator[_Wanted]:
-    """Yields what octets must be to have this number, unless it is None. Each part is a place, the bits of its octet
-    that have bits of the number, and how far up these bits are in the number, or how far down if that is below 0."""
+    """Yields the values that octets must have to hold this number, unless it is None. Each part is a place, a mask for
+    its octet, and the left shift from these bits to the number's; a shift below 0 is to the right."""
     if number is None:
         return
     if not 0 <= _number_of(name, number) <= most:
@@ -660,7 +663,7 @@ def _wanted(name: str, number: Optional[int], most: int, parts: Iterable[Tuple[i
 
 
 def _chosen(records: bytes, size: int, count: int, wanted: Iterable[_Wanted]) -> bytearray:
-    """Returns, for each of `count` records of this size, 1 if it has the octets wanted, or 0."""
+    """Returns 1 for each of `count` records of this size that has the octets wanted, and 0 for each other one."""
     chosen = int.from_bytes(b"\1" * count, "little")
     for place, table in wanted:
         chosen &= int.from_bytes(records[place:count * size:size].translate(table), "little")
@@ -669,8 +672,8 @@ def _chosen(records: bytes, size: int, count: int, wanted: Iterable[_Wanted]) ->
 
 def _frames_in(cls: Type[TcFrame], octets: bytes, checked: bool,
                channel: Sequence[_Wanted]) -> Iterator[Iterable[Tuple[Union[TcFrame, TcFault], bytes]]]:
-    """Yields the frames in the octets, piece by piece, and then what is left. `channel` has what the fields of the
-    frames wanted must be: the lower octet of the scid, its higher octet, and the vcid."""
+    """Yields the frames in the octets, piece by piece, and then the octets left over. `channel` contains the fields
+    that the frames wanted must have: the lower octet of the scid, its higher octet, and the vcid."""
     total, begun, many = c_size_t(), 0, cls._C * _MOST
     out: Any = ctypes.create_string_buffer(_MOST * _FOUND)  # its slices are bytes, which Debian's mypy 1.0.1 does not know
     check, control, number = 2 if checked else 0, Kind.BC.value, _places_of([c_uint16], 0)
@@ -748,7 +751,7 @@ class Packet(_Struct):
 
     @staticmethod
     def declared(octets: Octets) -> int:
-        """Returns the length of the packet that these octets begin. Raises PacketFault if they do not begin one."""
+        """Returns the length of the packet that begins with these octets. Raises PacketFault if no packet does."""
         octets = _octets_of("octets", octets)
         return _count_of(_packet_declared, PacketFault, octets, len(octets))
 
@@ -859,9 +862,9 @@ class _TmExtracted(ctypes.Structure):
 
 
 class TmBuilder(Single):
-    """Builds the telemetry frames of one virtual channel, all of `length` octets, 16 to 2,048, from packets, of which
-    at most `room` octets wait to be sent (132.0-B-3, 4.2). Raises TmFault 10 (FieldRange) for a spacecraft or virtual
-    channel that is not valid, or for any other length."""
+    """Builds the telemetry frames of one virtual channel from packets (132.0-B-3, 4.2). All frames have `length`
+    octets, 16 to 2,048; at most `room` octets of packets wait to be sent. Raises TmFault 10 (FieldRange) for a
+    spacecraft or virtual channel that is not valid, or for any other length."""
 
     def __init__(self, scid: int, vcid: int, length: int, room: int = 65542) -> None:
         self._builder, self._memory = _TmBuilder(), _room_of("room", room)
@@ -873,15 +876,15 @@ class TmBuilder(Single):
         return int(self._builder.count)
 
     def queue(self, packet: Octets) -> None:
-        """Queues a packet, with all of its octets. Raises TmFault 8 (NotAPacket) if the octets are not exactly one
+        """Queues a packet, given as all of its octets. Raises TmFault 8 (NotAPacket) if the octets are not exactly one
         packet, or are an idle packet, and 7 (Memory) if more octets would wait than there is room for."""
         packet = _octets_of("packet", packet)
         TmFault._look_at(_tm_builder_queue(self._builder, packet, len(packet), self._memory, len(self._memory)))
 
     def build(self, ocf: Octets) -> bytes:
         """Returns the octets of the next frame, with this operational control field, the four octets of a Clcw. If
-        packets run out, the frame has an idle packet; if there are none, it has only idle data. Raises TmFault 254
-        (WrongCount) unless the octets are four."""
+        packets run out within the frame, an idle packet fills it; if there are no packets, the frame has only idle
+        data. Raises TmFault 254 (WrongCount) unless the octets are four."""
         ocf = _octets_of("ocf", ocf)
         return _written(TmFault._look_at, _tm_builder_build, 2048, self._builder, ocf, len(ocf), self._memory,
                         len(self._memory))
@@ -908,9 +911,9 @@ class TakenFrame(NamedTuple):
 
 
 class TmExtractor(Single):
-    """Extracts packets from the telemetry frames of one virtual channel, any of which may be missing (132.0-B-3, 4.3).
-    It has memory for every packet of at most `longest` octets, 7 to 65,542, idle packets included. It delivers a longer
-    packet if that needs no more memory. Raises ValueError for any other `longest`."""
+    """Extracts packets from the telemetry frames of one virtual channel; any of the frames may be missing (132.0-B-3,
+    4.3). It has memory for every packet of at most `longest` octets, 7 to 65,542, idle packets included. It delivers a
+    longer packet if that needs no more memory. Raises ValueError for any other `longest`."""
 
     def __init__(self, longest: int = 65542) -> None:
         if not 7 <= _number_of("longest", longest) <= 65542:
@@ -922,8 +925,8 @@ class TmExtractor(Single):
     def dropped(self) -> int:
         """The number of packets so far that were begun and then dropped, because frames are missing after their first
         octets, or because a frame does not continue them (docs/PROFILE.md, "Extraction", 1 to 4). An idle packet does
-        not count, unless only one octet of it had arrived. A packet that is missing from its first octet on shows in
-        the sequence counts."""
+        not count, unless only one octet of it had arrived. A packet whose first octet is missing shows in the sequence
+        counts instead."""
         return self._dropped
 
     def take(self, frame: TmFrame, data: Octets) -> Extracted:
@@ -964,7 +967,7 @@ class TmExtractor(Single):
         return answers
 
     def _taken(self, frame: TmFrame, data: bytes, extracted: _TmExtracted) -> Tuple[int, List[bytes]]:
-        """Returns what the library answers, and the packets."""
+        """Returns the library's result, and the packets."""
         with self._lock:
             begun = self._begun()
             fault = _tm_extractor_frame(
@@ -988,7 +991,7 @@ class TmExtractor(Single):
 
 
 def _frames_with(octets: bytes, length: int, wanted: Sequence[_Wanted]) -> bytes:
-    """Returns the frames of this length that have the octets wanted, and what is left after the last frame."""
+    """Returns the frames of this length that have the octets wanted, and the octets left after the last frame."""
     whole, view = len(octets) // length, memoryview(octets)
     chosen = compress(range(0, whole * length, length), _chosen(octets, length, whole, wanted))
     return b"".join([*(view[begun:begun + length] for begun in chosen), view[whole * length:]])
@@ -1000,8 +1003,8 @@ _TAKEN, _TAKEN_FIELDS = Struct("<IBBBB11x"), 8
 
 
 def _add_taken(answers: List[TakenFrame], many: Any, records: bytes, octets: bytes) -> int:
-    """Adds what these records say of at most so many frames, whose packets have these octets. Returns the number of
-    packets that were dropped."""
+    """Adds the frames that these records describe, at most so many, whose packets have these octets. Returns the number
+    of packets that were dropped."""
     frames, end, all_dropped = _structs_with(TmFrame, _structs_of(many, records, _TAKEN.size, _TAKEN_FIELDS)), 0, 0
     for frame, (count, fault, first, lost, dropped) in zip(frames, _TAKEN.iter_unpack(records)):
         packets: List[bytes] = []
@@ -1058,7 +1061,7 @@ class _Limits(ctypes.Structure):
 
 
 def _parts_of(octets: bytes) -> Iterator[_Part]:
-    """Yields where the packets are in the octets, one after another. Each part is valid until the next is requested."""
+    """Yields the position of each packet in the octets. Each position is valid until the next one is requested."""
     part = _Part()
     while _map_packet(octets, len(octets), part):
         yield part
@@ -1095,8 +1098,8 @@ class Map(Single):
 
 def segments(octets: Octets, part: int, longest: int = 65542, blocking: bool = False) -> List[Tuple[Segment, bytes]]:
     """Cuts a packet, or with blocking consecutive packets, into segments of at most `part` octets. Returns for each
-    segment its Segment flags and its data. Raises MapFault if the octets are not a packet, or one has more than
-    `longest`."""
+    segment its Segment flags and its data. Raises MapFault if the octets are not a packet, or if a packet has more than
+    `longest` octets."""
     for name, value in (("part", part), ("longest", longest)):
         _within(name, c_uint32, value)
     octets, limits = _octets_of("octets", octets), _Limits(part, longest, bool(blocking))
@@ -1111,8 +1114,8 @@ def segments(octets: Octets, part: int, longest: int = 65542, blocking: bool = F
 
 
 def _groups_of(octets: bytes, part: int) -> Iterator[bytes]:
-    """Yields, from the left, the packets that go into one segment together, or a packet of more than `part` octets. A
-    segment is requested within its group, because the library scans all packets that it is given."""
+    """Yields, from the left, each group of packets that share one segment, and each packet of more than `part` octets.
+    A segment is requested within its group, because the library scans all packets that it is given."""
     start = end = 0
     for packet in _parts_of(octets):
         next_end = packet.start + packet.count

@@ -18,7 +18,7 @@ _Word = Union[Clcw, ClcwFault, TmFault]
 
 
 class Record(NamedTuple):
-    """A record of a ladder: whether it goes up, its name, what is beside it, and whether it is valid."""
+    """A record of a ladder: whether it is on the uplink, its name, the text beside it, and whether it is valid."""
 
     is_up: bool
     name: str
@@ -72,8 +72,8 @@ def _alone(state: _State) -> _States:
 
 
 def _after(frame: Union[TcFrame, TcFault], states: _States, may_wait: bool) -> _States:
-    """Returns the states in which a receiver of any width may be after a frame that may have been lost. Only if it may
-    wait does it find no free buffer."""
+    """Returns the states in which a receiver of any width may be after a frame that may have been lost. It finds no
+    free buffer only if `may_wait` is true."""
     if isinstance(frame, TcFault):
         return states
     found = dict(states)
@@ -99,8 +99,8 @@ def _after(frame: Union[TcFrame, TcFault], states: _States, may_wait: bool) -> _
 
 def _earliest(frames: Sequence[Union[TcFrame, TcFault]], begun: int, states: _States, wanted: _State,
               may_wait: bool) -> Optional[int]:
-    """Returns how many frames went up before a CLCW at least, if so many had before the one before it; None if it
-    follows from none of the next frames."""
+    """Returns the least number of frames that were sent before a CLCW, given that `begun` frames were sent before the
+    previous CLCW; None if none of the next frames explains the CLCW."""
     value, *key = wanted
     for count in range(begun, min(begun + _FARTHEST, len(frames)) + 1):
         if states.get((key[0], key[1]), 0) >> value & 1:
@@ -110,9 +110,9 @@ def _earliest(frames: Sequence[Union[TcFrame, TcFault]], begun: int, states: _St
 
 
 def _placed(frames: Sequence[Union[TcFrame, TcFault]], words: Sequence[_Word]) -> Iterator[Tuple[int, str, str, bool]]:
-    """Yields for each CLCW how many frames went up before it at least, its name, what is beside it, and whether it is
-    valid. The first one shows the state of the receiver before all frames, as far as is known. No buffer on board is
-    full unless a CLCW has the wait flag."""
+    """Yields for each CLCW the least number of frames that were sent before it, its name, the text beside it, and
+    whether it is valid. The first CLCW shows the state of the receiver before all frames, as far as is known. No buffer
+    on board is full unless a CLCW has the wait flag."""
     states: _States = {}
     place, may_wait = 0, any(isinstance(word, Clcw) and word.wait for word in words)
     for word in words:

@@ -1,5 +1,5 @@
-"""What the libraries refuse: the kinds of faults, and what each number means. `tools/bindings` writes the meanings,
-as the C headers state them."""
+"""The faults with which the libraries refuse calls: their kinds, and what each number means. `tools/bindings` writes
+the meanings, as the C headers state them."""
 from __future__ import annotations
 
 import ctypes
@@ -10,7 +10,7 @@ from ._library import FIRST, NODES, Numbers, call_of
 
 _SHARED = {253: "Absent", 254: "WrongCount", 255: "Damaged"}
 _WRONG_COUNT = {254: "not the number of octets that the call needs"}
-_DAMAGED = {255: "a struct has a value that no sender, receiver or MAP has, or one out of its enum"}
+_DAMAGED = {255: "a struct has a value that no sender, receiver or MAP has, or one outside its enum"}
 
 
 class Text(ctypes.Structure):
@@ -18,15 +18,15 @@ class Text(ctypes.Structure):
 
 
 def word_of(kind: str, library: ctypes.PyDLL = FIRST) -> Callable[[int], str]:
-    """Returns a function that gives the words of a kind of numbers, as tctool prints them."""
+    """Returns a function that returns the word of a number of one kind, as tctool prints it."""
     name = call_of(library, kind + "_name", Text, ("number", c_uint8))
     return lambda number: str(name(number).text.decode())
 
 
 class Fault(Exception):
-    """What the library refuses: its `number` and `name`, as in the C headers, and its `meaning`. Its text contains all
-    three. Faults of one kind are equal if their numbers are equal. The `number` is a member of the enumeration `Number`
-    of its class, as in `fault.number is LinkFault.Number.QUEUE_FULL`."""
+    """The reason why the library refuses a call: its `number` and `name`, as in the C headers, and its `meaning`. Its
+    text contains all three. Faults of one kind are equal if their numbers are equal. The `number` is a member of the
+    enumeration `Number` of its class, as in `fault.number is LinkFault.Number.QUEUE_FULL`."""
 
     class Number(Numbers):
         """The numbers of one kind of faults, by name."""
@@ -105,7 +105,7 @@ class CopFault(Fault):
         3: "the transmission limit is 0",
         4: "the timer's value is 0",
         6: "the sender is in its state S6",
-        7: "a unit waits already",
+        7: "a unit is already waiting",
         8: "the directive is not allowed in the sender's state",
         **_DAMAGED,
     }
@@ -127,10 +127,10 @@ class TcFault(Fault):
         5: "the declared total is not the number of octets, or too small (4.1.2.7)",
         6: "the last two octets are not the check of those before them (4.1.4)",
         7: "a frame with the bypass flag has a number other than 0 (4.1.2.8)",
-        8: "no octet in the data field, or a segment header alone",
+        8: "no octet in the data field, or only a segment header",
         9: "the data of a control frame are neither Unlock nor Set V(R) (4.1.3.3)",
         10: "there is too little room for the frame",
-        11: "a field out of its range, no data, or more than 1,024 octets",
+        11: "a field out of range, no data, or more than 1,024 octets",
         **_DAMAGED,
     }
 
@@ -147,7 +147,7 @@ class PacketFault(Fault):
         2: "the version number is not 000 (4.1.3.2)",
         3: "an idle packet with a secondary header (4.1.3.3.3)",
         4: "there is too little room for the packet",
-        5: "a field out of its range, no data or more than 65,536 octets of them, or an idle packet with a secondary "
+        5: "a field out of range, no data or more than 65,536 octets of them, or an idle packet with a secondary "
            "header",
         **_DAMAGED,
     }
@@ -168,11 +168,11 @@ class TmFault(Fault):
         4: "a flag of the data field status is 1, or its identifier is not 11 (4.1.2.7)",
         5: "a first header pointer at or after the data field's end (4.1.2.7.6)",
         6: "the frame declares no operational control field (4.1.2.4)",
-        7: "there is too little memory for what would be kept",
+        7: "out of memory for what would be kept",
         8: "not exactly one packet, or an idle packet",
         9: "there is too little room for the frame",
-        10: "a field out of its range, a pointer after the data, not 4 to 2,036 octets of data, or a length outside 16 "
-            "to 2,048",
+        10: "a field out of range, a pointer after the data, not 4 to 2,036 octets of data, or a length outside 16 to "
+            "2,048",
         **_WRONG_COUNT,
     }
 
@@ -206,12 +206,12 @@ class LogFault(Fault):
 
     _word = staticmethod(word_of("log_fault"))
     _meanings = {
-        1: "not exactly one packet of this layout, or not as many octets as the layout has",
-        2: "the check does not hold, or a field has a value that no layout gives it",
+        1: "not exactly one packet of this layout, or not the layout's number of octets",
+        2: "the check does not hold, or a field has a value that the layout does not allow",
         3: "the board has started, and a copy of its record is being repaired",
         4: "the record is being written, a command is executed, or a restart is due",
         5: "the board has lost its record",
-        6: "the command's number is that of one that was executed or passed over",
+        6: "a command with this number was executed or passed over",
         7: "the command's number is above the next one",
         8: "the order is for another boot count",
         9: "the order brings a record, and the board has its own",
@@ -233,8 +233,8 @@ class LinkFault(Fault):
         2: "the MAP is not open",
         3: "the octets are not command packets, or not as many as one call takes",
         4: "a packet has more octets than it may have",
-        5: "as many units as may wait are waiting",
-        6: "there was no memory",
+        5: "as many units wait as may wait",
+        6: "out of memory",
         10: "nothing is known of how far the session has come",
     }
 
@@ -247,7 +247,7 @@ class SimFault(Fault):
 
     _word = staticmethod(word_of("sim_fault", NODES))
     _meanings = {
-        6: "there was no memory",
-        7: "no frame is on its way in this direction",
+        6: "out of memory",
+        7: "no frame is in transit in this direction",
         8: "the receiver's decoder would accept the octets of the damaged frame",
     }

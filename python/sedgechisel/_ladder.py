@@ -78,7 +78,7 @@ def clcw_name(word: bytes) -> str:
 
 
 class _Ladder(Picture):
-    """A ladder of this number of rows. What is above the first row is left out."""
+    """A ladder of this number of rows. Anything above the first row is left out."""
 
     def __init__(self, rows: int, title: str) -> None:
         super().__init__(_WIDTH, 80 + _ROW * rows, f"The ladder of {title}")
@@ -146,8 +146,8 @@ class _Session(_Ladder):
 
 
 def session(title: str, events: Sequence[Tuple[str, str]], name_of: Callable[[bytes], str], first: int = 0) -> str:
-    """Returns the ladder of a script as SVG: of its lines, each with its answer, from the first on. `name_of` returns
-    what the ladder shows of a telecommand frame."""
+    """Returns the ladder of a script as SVG, from the line `first` on; each line has its answer. `name_of` returns what
+    the ladder shows of a telecommand frame."""
     picture = _Session(min(max(len(events) - first, 0), MOST_ROWS), title, name_of)
     for row, (line, answer) in enumerate(events[:first + MOST_ROWS], -first):
         picture.row(line, answer, _TOP + _ROW * row)
@@ -155,8 +155,8 @@ def session(title: str, events: Sequence[Tuple[str, str]], name_of: Callable[[by
 
 
 def captures(title: str, records: Sequence[Tuple[bool, str, str, bool]], first: int = 0) -> str:
-    """Returns the ladder of two captures as SVG, of the records from the first on: whether one goes up, its name, what
-    is beside it, and whether it is valid."""
+    """Returns the ladder of two captures as SVG, from the record `first` on. A record contains whether it is on the
+    uplink, its name, the text beside it, and whether it is valid."""
     shown = records[first:first + MOST_ROWS]
     picture = _Ladder(len(shown) + 1, title)
     for row, (is_up, label, told, is_valid) in enumerate(shown):

@@ -1,4 +1,4 @@
-"""Commands that are executed once and in order on board, over restarts at any moment: the board's half, and the codecs
+"""Commands that are executed once and in order on board, over restarts at any moment: the board's part, and the codecs
 of the ground."""
 from __future__ import annotations
 
@@ -39,7 +39,7 @@ class ActionKind(_Numbers):
 
 
 class Action(NamedTuple):
-    """What `Executor.next` returns: the program does it, whole, and passes it to `done`."""
+    """What `Executor.next` returns: the program completes the action, and passes it to `done`."""
 
     kind: ActionKind
     octets: bytes
@@ -52,11 +52,11 @@ class Action(NamedTuple):
 
 class Executor(Single):
     """Decides on board which command is executed next: each once and in order, over restarts at any moment. It does no
-    input or output. Give it the octets at the two places of a memory that survives restarts, empty for a place that
-    cannot be read, and another `mark` at each start, from a clock or at random: if neither place has a record, it is
+    input or output. Pass it the octets at the two places in memory that survives restarts (no octets for a place that
+    cannot be read), and another `mark` at each start, from a clock or at random: if neither place has a record, it is
     the mark of this loss. A new board has `new_record()` at both places.
 
-    The program does what `next` returns, whole, and calls `done`, before it calls `next` again."""
+    The program must complete the action that `next` returns, and call `done`, before it calls `next` again."""
 
     def __init__(self, first: Octets, second: Octets, mark: int) -> None:
         first, second = _octets_of("first", first), _octets_of("second", second)
@@ -65,7 +65,8 @@ class Executor(Single):
         _log_start(self._log, first, len(first), second, len(second), mark)
 
     def next(self) -> Action:
-        """Returns what the program does now. Raises RuntimeError if `done` was not called for what it returned last."""
+        """Returns the program's next action. Raises RuntimeError if `done` was not called for the action that it
+        returned last."""
         with self._lock:
             if self._due is not None:
                 raise RuntimeError(f"next before done: {self._due.kind.name} is not done")
@@ -79,8 +80,8 @@ class Executor(Single):
             return action
 
     def done(self, action: Action) -> None:
-        """Takes the action that `next` returned, once it was done whole. Raises RuntimeError, and changes nothing, if
-        it is not that action. For an action of the kind NOTHING it does nothing."""
+        """Takes the action that `next` returned, once it is complete. Raises RuntimeError, and changes nothing, for any
+        other action. Does nothing for an action of the kind NOTHING."""
         with self._lock:
             if _struct_of("action", Action, action).kind == ActionKind.NOTHING and self._due is None:
                 return
@@ -100,16 +101,17 @@ class Executor(Single):
             return self._content
 
     def obey(self, octets: Octets) -> None:
-        """Takes the octets of an order that arrived. The next action is then RESTART; or the board that has lost its
-        record continues with the one that the order brings. Raises LogFault, and changes nothing, for any other packet,
-        which is dropped: the first of 1 (Layout), 2 (Check), 3 (Starting), 4 (Busy) or 5 (Lost), 8 (OtherBoot), 9
-        (NotLost) and 10 (OtherMark)."""
+        """Takes the octets of an order that arrived. The next action is then RESTART; or a board that has lost its
+        record continues with the record that the order brings. Raises LogFault, and changes nothing, for any other
+        packet, which is dropped: the first of 1 (Layout), 2 (Check), 3 (Starting), 4 (Busy) or 5 (Lost), 8 (OtherBoot),
+        9 (NotLost) and 10 (OtherMark)."""
         octets = _octets_of("octets", octets)
         with self._lock:
             LogFault._look_at(_log_obey(self._log, octets, len(octets)))
 
     def status(self, waiting: int = 0) -> bytes:
-        """Returns the 27 octets of the status for telemetry, with how many commands wait on board, at most 255."""
+        """Returns the 27 octets of the status for telemetry, with the number of commands that wait on board, at most
+        255."""
         room = ctypes.create_string_buffer(_STATUS)
         with self._lock:
             LogFault._look_at(_log_status(self._log, waiting, room, _STATUS))
@@ -124,8 +126,8 @@ def new_record() -> bytes:
 
 
 class StatusKind(_Numbers):
-    """What a status states: the record, that it is being written or that the board has just started (the previous
-    status holds), or that the record is lost."""
+    """What a status states: the record; or that the record is being written, or that the board has just started (the
+    previous status then holds); or that the record is lost."""
 
     SAYS, CHANGES, STARTS, LOST = range(4)
 
@@ -168,13 +170,13 @@ def command_packet(apid: int, count: int, number: int, content: Octets) -> bytes
 
 
 def restart_order(apid: int, count: int, boot: int) -> bytes:
-    """Returns the order, a packet, that the board with this boot count restarts. Raises LogFault 11 (FieldRange)."""
+    """Returns the packet of an order that restarts the board with this boot count. Raises LogFault 11 (FieldRange)."""
     return _order(1, apid, count, 0, boot, 0)
 
 
 def rebuild_order(apid: int, count: int, mark: int, boot: int, last: int) -> bytes:
-    """Returns the order, a packet, that brings a record to the board that has lost its own, with this mark: its boot
-    count and its last number. Raises LogFault 11 (FieldRange)."""
+    """Returns the packet of an order that brings a record to the board that has lost its own, with this mark. The
+    record has this boot count and this last number. Raises LogFault 11 (FieldRange)."""
     return _order(2, apid, count, mark, boot, last)
 
 
@@ -186,8 +188,9 @@ def _order(kind: int, apid: int, count: int, mark: int, boot: int, last: int) ->
 
 
 def history_after(history: int, packet: Octets) -> int:
-    """Returns the history after one command packet more: CRC-32 continued over the last four octets of the packet. The
-    history of no packets is 0. A ground compares that of the packets that it sent with the history of a status."""
+    """Returns the history after one more command packet: CRC-32 continued over the last four octets of the packet. The
+    history of no packets is 0. A ground compares the history of the packets that it sent with the history in a
+    status."""
     packet = _octets_of("packet", packet)
     return int(_log_history_after(history, packet, len(packet)))
 

@@ -39,15 +39,15 @@ class Config(_Struct):
     - `window`: the sender's window K, 1 to width/2; default 127
     - `limit`: the transmission limit, 1 to 255; default 3
     - `timer`: the timer's value in ticks, 1 to 65,535; default 10
-    - `part`: the most octets of data in a segment, 1 to 1,016 (without silence before an initiation, segments of two
-      longer packets can be joined into a command that nobody submitted); default 1,016
-    - `max_packet`: the most octets of a packet, 7 to 65,542; default 65,542
-    - `maps`: bit m, which counts 2 to the power of m, says that MAP m is open, any 64 bits; default all ones
+    - `part`: the maximum number of data octets in a segment. Without silence before an initiation, segments of two
+      longer packets can be joined into a command that nobody submitted. Range 1 to 1,016; default 1,016
+    - `max_packet`: the maximum length of a packet in octets, 7 to 65,542; default 65,542
+    - `maps`: the open MAPs, any 64 bits: bit m, of value 2 to the power of m, is 1 if MAP m is open; default all ones
     - `ready_slots`: the number of packets waiting to be taken at which the buffer on board is full, 1 to 64; default 64
-    - `bypass_slots`: the most packets of bypass frames that wait to be taken, 1 to 64; default 4
-    - `queue_slots`: the most units that wait to be sent for the first time, 1 to 65,535; default 1,000
-    - `frame_length`: the octets of a telemetry frame, 16 to 2,048; default 64
-    - `blocking`: 1 where a segment may hold several packets, 0 to 1; default 0"""
+    - `bypass_slots`: the maximum number of bypass packets that wait to be taken, 1 to 64; default 4
+    - `queue_slots`: the maximum number of units that wait to be sent for the first time, 1 to 65,535; default 1,000
+    - `frame_length`: the length of a telemetry frame in octets, 16 to 2,048; default 64
+    - `blocking`: 1 if a segment may contain several packets, 0 to 1; default 0"""
 
     __slots__ = ()
     _fields_ = [("scid", c_uint32), ("vcid", c_uint32), ("tm_vcid", c_uint32), ("width", c_uint32),
@@ -111,7 +111,7 @@ def _fields_of(given: Dict[str, Any]) -> Dict[str, Any]:
 
 class Handle(Single):
     """What the nodes share. A node is closed by `close`, at the end of its `with` block, or when nothing refers to it
-    any more; each later call raises a ValueError."""
+    any more. Every later call raises a ValueError."""
 
     _opens: Callable[..., int]
     _closes: Callable[..., Any]
@@ -207,9 +207,10 @@ class Handle(Single):
         return _written(self._asked, call, most, self._handle, *values)
 
     def _take_out(self, call: Callable[..., int], most: int, made: Callable[[int, bytes], Any], *map: c_uint8) -> Any:
-        """Returns what a call takes out of the node, made of its MAP and its octets, or None. If a signal handler raises
-        after the call, what it took is left here, and the next such call returns it: the interpreter runs a handler
-        after a call or a loop's turn, so not between a statement without a call and the `return` after it."""
+        """Returns what a call takes out of the node, made of its MAP and its octets, or None. If a signal handler
+        raises after the call, what it took is left here, and the next such call returns it: the interpreter runs a
+        handler after a call or an iteration of a loop, so not between a statement without a call and the `return` after
+        it."""
         left = self._left[call.__name__]
         while left:
             entry = left[0]
@@ -238,8 +239,8 @@ def _octets_alone(_: int, octets: bytes) -> bytes:
 
 
 class Arrived(Numbers):
-    """What received octets were: not a valid frame, a frame of another spacecraft or channel, a telecommand frame of
-    one of the types, a telemetry frame, or a CLCW by itself."""
+    """What the received octets were: not a valid frame, a frame of another spacecraft or channel, a telecommand frame
+    of one of the types, a telemetry frame, or a CLCW by itself."""
 
     INVALID, FOREIGN, AD, BD, BC, TM, CLCW = range(1, 8)
 
@@ -257,8 +258,8 @@ class _Renamed(EnumMeta):
 
 
 class Report(Numbers, metaclass=_Renamed):
-    """What became of a report: it was given to the sender (USED), its octets are not a control word (REFUSED), or it is
-    about another virtual channel (OTHER_CHANNEL)."""
+    """What became of a CLCW: it was passed to the sender (USED), its octets are not a valid CLCW (REFUSED), or it
+    reports on another virtual channel (OTHER_CHANNEL)."""
 
     USED, REFUSED, OTHER_CHANNEL = range(3)
 
@@ -332,7 +333,7 @@ class _Heard(ctypes.Structure):
                 ("report", c_uint8), ("word_fault", c_uint8), ("alert", c_uint8)]
 
     def value(self, ocf: Octets = b"") -> Heard:
-        """Returns what arrived, with these four octets for its word."""
+        """Returns what arrived, with these four octets as its CLCW."""
         if self.kind == 1:
             return Heard(Arrived.INVALID, fault=TmFault(self.fault))
         if self.kind == 2:
@@ -408,7 +409,7 @@ class Ground(Directives, Handle):
         """Opens a ground with these managed parameters: a Config, or some of its fields, each by name; the others have
         their defaults. With `kept`, the `kept` of a ground that was lost, it continues from there in S6: `resume`
         begins the next session, as after an alert. Raises ConfigFault if a parameter is out of range, OverflowError for
-        a record that no ground of this configuration gives, or LinkFault 6 (Memory)."""
+        a record that no ground of this configuration can have written, or LinkFault 6 (Memory)."""
         self._kept = None if kept is None else _struct_of("kept", KeptGround, kept)._record()
         super().__init__(config, **_fields_of(locals()))
 
@@ -423,8 +424,9 @@ class Ground(Directives, Handle):
     @property
     def kept(self) -> KeptGround:
         """The record of this ground, of fixed size. A program stores it after each call, and after a pull before the
-        frame goes out. If the ground is lost, `Ground(config, kept=..)` opens another one at it. The record has nothing
-        of submissions that were not sent whole, of bypass packets, of telemetry, or of what directives set."""
+        frame is sent. If the ground is lost, `Ground(config, kept=..)` opens another one from the record. The record
+        contains nothing about submissions that were not sent whole, bypass packets, telemetry, or what directives
+        set."""
         it = _KeptGround()
         self._asked(_ground_kept(self._handle, it))
         return KeptGround(it.acknowledged, it.vs, it.nn, it.known == 1, tuple(it._segments[:it.whole]))
@@ -445,13 +447,13 @@ class Ground(Directives, Handle):
 
     def try_submit(self, map: int, packets: Octets) -> Optional[int]:
         """Queues packets as `submit` does, and returns the number of the submission; or None if the queue has no room
-        for them now (LinkFault 5, QueueFull), which is flow control and no error. Nothing has changed then."""
+        for them now (LinkFault 5, QueueFull), which is flow control and not an error. Nothing has changed then."""
         answer, number = self._submitted(map, _octets_of("packets", packets))
         return None if answer == LinkFault.Number.QUEUE_FULL or self._asked(answer) else number
 
     def _submitted(self, map: int, packets: bytes) -> Tuple[int, int]:
-        """Submits, and returns the answer and the number that a submission has if the answer is 0. One step makes both
-        calls, so that no submission by a signal handler comes between them."""
+        """Submits, and returns the answer and the number of the submission, which is valid if the answer is 0. One step
+        makes both calls, so that no submission by a signal handler comes between them."""
         _within("map", c_uint8, map)
         submit, read = getattr(_ground_submit, "__wrapped__"), _GroundReading()
         submit = partial(submit, self._handle, map, packets, len(packets))
@@ -465,8 +467,8 @@ class Ground(Directives, Handle):
         self._asked(_ground_bypass(self._handle, map, packet, len(packet)))
 
     def pull(self) -> Optional[bytes]:
-        """Takes the telecommand frame that goes on the link next. Returns it with its FECF, at most 1,024 octets, or
-        None if nothing is to be sent now."""
+        """Takes the next telecommand frame for the link. Returns it with its FECF, at most 1,024 octets, or None if
+        nothing is to be sent now."""
         taken: Optional[bytes] = self._take_out(_ground_pull, 1024, _octets_alone)
         return taken
 
@@ -476,13 +478,13 @@ class Ground(Directives, Handle):
         return iter(self.pull, None)
 
     def peek(self) -> Optional[bytes]:
-        """Returns the telecommand frame that goes on the link next, as `pull` does, or None if nothing is to be sent
-        now. Changes nothing: the frame counts as sent once `advance` is called, for example when a radio that may
+        """Returns the next telecommand frame for the link, as `pull` does, or None if nothing is to be sent now.
+        Changes nothing: the frame counts as sent once `advance` is called, for example when a radio that may
         refuse the frame has taken it."""
         return self._given(_ground_peek, 1024) or None
 
     def advance(self) -> None:
-        """Counts the frame that goes on the link next as sent, as `pull` does."""
+        """Counts the next frame for the link as sent, as `pull` does."""
         self._asked(_ground_advance(self._handle))
 
     def telemetry(self, octets: Octets) -> Heard:
@@ -493,26 +495,26 @@ class Ground(Directives, Handle):
         return heard.value(octets[-6:-2])
 
     def telemetry_all(self, octets: Octets, length: int) -> Iterator[Heard]:
-        """Takes received octets that are consecutive telemetry frames of `length` octets. Yields for each what
-        `telemetry` returns, when it is requested, and takes the same time. Take the `packets` after each frame, or
-        those of all at the end. Octets left at the end are yielded as an invalid frame. Raises ValueError unless the
-        length is 16 to 2,048, and LinkFault 6 (Memory)."""
+        """Takes received octets that are consecutive telemetry frames of `length` octets. Yields for each frame, on
+        request, what `telemetry` returns, and takes as long as a loop over `telemetry`. Take the `packets` after each
+        frame, or those of all frames at the end. Octets left at the end are yielded as an invalid frame. Raises
+        ValueError unless the length is 16 to 2,048, and LinkFault 6 (Memory)."""
         octets, length = _octets_of("octets", octets), _frame_length_of(length)
         return (self.telemetry(octets[start:start + length]) for start in range(0, len(octets), length))
 
     def clcw(self, word: Octets) -> Heard:
-        """Takes a CLCW of four octets by itself, as a front end passes it on. Gives it to the sender, as if it had come
-        in a telemetry frame; telemetry is unchanged. The last CLCW may be given again before the next one, which
-        changes nothing; an older one must not be given again as if it were new. Raises ValueError unless the octets are
-        four."""
+        """Takes a CLCW of four octets by itself, as a front end forwards it. Passes it to the sender, as if it had
+        arrived in a telemetry frame; telemetry is unchanged. The front end may repeat the last CLCW before the next
+        one, which changes nothing; it must not forward an older one as if it were new. Raises ValueError unless the
+        octets are four."""
         octets, heard = _octets_of("word", word), _Heard()
         if self._is_absent(_ground_clcw(self._handle, octets, len(octets), heard)):
             raise ValueError(f"word: {len(octets)} octets, where a control word has four")
         return heard.value(octets)
 
     def forget_telemetry(self) -> None:
-        """Begins the extraction of packets from telemetry anew, as after a restart of the spacecraft: drops a packet
-        that is not finished. Packets that wait to be taken stay."""
+        """Restarts the extraction of packets from telemetry, for example after a restart of the spacecraft. Drops an
+        unfinished packet. Packets that wait to be taken stay."""
         self._asked(_ground_forget_telemetry(self._handle))
 
     def clcw_in(self, octets: Octets) -> Optional[Clcw]:
@@ -541,8 +543,8 @@ class Ground(Directives, Handle):
     def accepted_beyond(self, value: int) -> Optional[int]:
         """Returns how many of the sent and unacknowledged segments, oldest first, had been accepted on board when a
         CLCW with this value was made. Returns 0 if V(S) = NN(R), whatever the value; otherwise None if the value is
-        beyond V(S), because nothing is known of them. Also answers after an alert, in S6, until V(S) is set or an
-        initiation begins (232.1-B-2, 5.1), but by the numbers only: after an alert that shows a broken condition
+        beyond V(S), because nothing is then known of these segments. Works after an alert too, in S6, until V(S) is set
+        or an initiation begins (232.1-B-2, 5.1). Uses only the numbers: after an alert that shows a broken condition
         nothing is known of the segments, whatever this returns."""
         accepted = c_uint8()
         return None if self._is_absent(_ground_accepted_beyond(self._handle, value, accepted)) else accepted.value
@@ -550,7 +552,7 @@ class Ground(Directives, Handle):
     def known_on_board(self, value: int) -> Optional[int]:
         """Returns how many of the session's submissions, counted from the first, are known to be on board whole by a
         CLCW with this value: those that are acknowledged, and those whose segments were all accepted according to the
-        CLCW. Also answers after an alert (232.1-B-2, 5.1). Returns None if nothing is known: no session has begun, V(S)
+        CLCW. Works after an alert too (232.1-B-2, 5.1). Returns None if nothing is known: no session has begun, V(S)
         has been set since, the session ended by an alert that shows a broken condition, or V(S) is not NN(R) and the
         value is not in the range from NN(R) to V(S)."""
         whole = c_uint64()
@@ -560,9 +562,9 @@ class Ground(Directives, Handle):
         """Begins the next session after the alert Timer, Limit or Terminated, at the point that the ended session
         reached. Sets V(S) to the value of a CLCW that was made when nothing was in transit on the uplink, and begins by
         Unlock (232.1-B-2, 5.2.4). Returns how many of the ended session's submissions, counted from the first, are on
-        board whole; submit those after them again. (If a submission has several packets that do not fit into one
-        segment together, some of them may be on board although it is not counted.) If V(S) = NN(R), any value is taken:
-        nothing that was sent is in doubt.
+        board whole; submit the later ones again. (If a submission has several packets that do not fit into one segment
+        together, some of them may be on board although it is not counted.) If V(S) = NN(R), any value is taken: nothing
+        that was sent is in doubt.
 
         Raises LinkFault 10 (NotKnown) if nothing is known of what is on board: the sender is not in S6, no session has
         begun, V(S) has been set since, the session ended by an alert that shows a broken condition (Lockout, NnR, Clcw

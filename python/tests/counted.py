@@ -204,8 +204,8 @@ def memory_in_random_sessions(it):
             if fault and is_want_of_memory(it, fault):
                 answers += 1
                 assert counted.refused > refused, f"session {number}: {fault}, and nothing was refused"
-                kept = {it.TelemetryFault: "there is too little memory for what would be kept"}
-                assert fault.meaning == kept.get(type(fault), "there was no memory"), fault
+                kept = {it.TelemetryFault: "out of memory for what would be kept"}
+                assert fault.meaning == kept.get(type(fault), "out of memory"), fault
             if fault:
                 assert session.shown() == before, f"session {number}: {fault}, and something has changed"
         session.close()

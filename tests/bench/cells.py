@@ -1,4 +1,4 @@
-"""The cells of tables/: which of them an event of the model's FARM-1 or FOP-1 is, and whether the model agrees."""
+"""The cells of tables/: finds the cell of an event of the model's FARM-1 or FOP-1, and whether the model agrees."""
 import csv
 import os
 from collections import Counter, namedtuple

@@ -1,12 +1,13 @@
 #!/usr/bin/env python3
-"""Plays each cell of a table and random events against a program that speaks the lines of a node, beside the model:
+"""Runs each cell of a table and random events against a program that answers the lines of a node, compared with the
+model:
 
     driver.py --node spacecraft|ground --against "COMMAND" [--link [--book] [--fixed FIELD=N,..]] [--events N] ..
 
 COMMAND is a program that answers lines on standard input, as `tctool spacecraft` does (docs/TCTOOL.md, "One node, line
 by line"); with --link it needs to know no more than what crosses the link (docs/BENCH.md). The model is farm.py or
 fop.py. A difference is shown with its cell, as the line of tables/farm.csv or tables/fop.csv, both answers, and as few
-lines as are enough to show one. The last line is 'N events, C of D cells, E differences', and the status is 0 only
+lines as suffice to show one. The last line is 'N events, C of D cells, E differences', and the status is 0 only
 where nothing differs."""
 import argparse
 import random

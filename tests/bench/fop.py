@@ -1,6 +1,6 @@
 #!/usr/bin/env python3
-"""A ground with FOP-1, line by line on standard input and output: an account of CCSDS 232.1-B-2, 5, and of
-docs/PROFILE.md that was written apart from the crates, to be played against another one by driver.py."""
+"""A ground with FOP-1, line by line on standard input and output. It implements CCSDS 232.1-B-2, 5, and docs/PROFILE.md
+independently of the crates. driver.py runs another implementation against it."""
 import sys
 from bisect import bisect_right
 from collections import deque
@@ -359,4 +359,8 @@ class Ground(Node):
 
 
 if __name__ == "__main__":
+    if sys.argv[1:]:
+        import argparse  # (only now, since a driver starts this program often)
+
+        argparse.ArgumentParser(description=__doc__, formatter_class=argparse.RawDescriptionHelpFormatter).parse_args()
     serve(Ground())

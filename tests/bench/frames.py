@@ -1,4 +1,4 @@
-"""Octets of packets, frames and control words, as docs/PROFILE.md has them: written apart from the crates."""
+"""Octets of packets, frames and CLCWs, as docs/PROFILE.md defines them, written independently of the crates."""
 from binascii import crc_hqx
 from collections import namedtuple
 

@@ -1,5 +1,5 @@
-"""What crosses the link: which lines a program is given that is a FARM-1 or a FOP-1 alone, and what of its answers is
-compared (driver.py --link)."""
+"""What crosses the link: the input lines of a program that is only a FARM-1 or a FOP-1, and the parts of its answers
+that are compared (driver.py --link)."""
 import re
 
 from frames import ALONE, Fault, are_packets, read_clcw, read_tc

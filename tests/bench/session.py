@@ -1,5 +1,15 @@
 #!/usr/bin/env python3
-"""A session of a FOP-1 with the FARM-1 of another program, by commands: `session.py GROUND SPACECRAFT [FIELD=N ..]`."""
+"""Runs a session of a FOP-1 with the FARM-1 of another program, by commands: `session.py GROUND SPACECRAFT [FIELD=N
+..]`."""
+import argparse
+
+WORDS = argparse.ArgumentParser(description=__doc__, formatter_class=argparse.RawDescriptionHelpFormatter)
+WORDS.add_argument("ground", metavar="GROUND", help="the command that starts the FOP-1")
+WORDS.add_argument("spacecraft", metavar="SPACECRAFT", help="the command that starts the FARM-1")
+WORDS.add_argument("fields", nargs="*", metavar="FIELD=N", help="a managed parameter")
+WORDS.parse_args()
+
+# docs/BENCH.md shows the rest.
 import subprocess
 import sys
 

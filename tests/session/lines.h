@@ -1,5 +1,5 @@
 /* What the two players share: the lines of `tctool sim`, and the words of a script. The script is standard input, and
- * one that tests/session/script wrote: nothing of it is unreadable. */
+ * was written by tests/session/script, so every line of it is readable. */
 #ifndef LINES_H
 #define LINES_H
 

@@ -1,4 +1,4 @@
-/* Plays a script of the simulated link with that of libsedgechisel_nodes, and writes the lines of `tctool sim`. */
+/* Runs a script of the simulated link with that of libsedgechisel_nodes, and writes the lines of `tctool sim`. */
 #include "lines.h"
 
 static struct sedge_sim sim;

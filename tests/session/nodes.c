@@ -1,6 +1,5 @@
-/* Plays a script of the simulated link with the two nodes of libsedgechisel_nodes, and writes the lines of
- * `tctool sim`. The link between them is here: a list of frames on their way in each direction. The lines of `show` are
- * left out. */
+/* Runs a script of the simulated link with the two nodes of libsedgechisel_nodes, and writes the lines of `tctool sim`.
+ * The link between them is here: a list of frames in transit for each direction. The lines of `show` are left out. */
 #include "lines.h"
 
 enum { ON_THEIR_WAY = 4096 };

@@ -1,5 +1,5 @@
-// Plays scripts of the simulated link with the module for JavaScript, and writes the lines of `tctool sim`:
-// `node play.mjs MODULE SCRIPT ..`. Without a SCRIPT it is standard input.
+// Runs scripts of the simulated link with the module for JavaScript, and writes the lines of `tctool sim`:
+// `node play.mjs MODULE SCRIPT ..`. Without a SCRIPT, it reads standard input.
 import { readFileSync } from 'node:fs';
 import { load } from '../../web/sedgechisel.mjs';
 import { Link, scriptOf } from '../../web/link.mjs';

@@ -1,12 +1,17 @@
 #!/usr/bin/env python3
-"""Plays a script of the simulated link with the package sedgechisel, and writes the lines of `tctool sim`:
+"""Runs a script of the simulated link with the package sedgechisel, and writes the lines of `tctool sim`:
 `play.py link` with its simulated link; `play.py nodes` with its two nodes and a link that is here, without the lines of
-`show`. The script is standard input. It is one that tests/session/script wrote: nothing of it is unreadable."""
+`show`. The script is standard input, and was written by tests/session/script, so every line of it is readable."""
+import argparse
 import sys
 from collections import deque
 
-import sedgechisel as sc
-from sedgechisel._script import Player, clcw_text, digits_of, heard_text, octets_of, received_text
+WORDS = argparse.ArgumentParser(description=__doc__, formatter_class=argparse.RawDescriptionHelpFormatter)
+WORDS.add_argument("kind", choices=("link", "nodes"), help="the simulated link, or two nodes")
+KIND = WORDS.parse_args().kind
+
+import sedgechisel as sc  # noqa: E402
+from sedgechisel._script import Player, clcw_text, digits_of, heard_text, octets_of, received_text  # noqa: E402
 
 LINK = {7: "NothingInTransit", 8: "NotDetectable"}
 
@@ -70,4 +75,4 @@ def main(kind):
             print(session.answer(line.rstrip("\n")))
 
 
-main({"nodes": Nodes, "link": Player}[sys.argv[1]])
+main({"nodes": Nodes, "link": Player}[KIND])

@@ -1,7 +1,8 @@
-"""Sessions at the ends of every range, with ample memory, from Python: MAPs, windows, segments, packets, identifiers, frames
-of telemetry, what is on its way, and what a spacecraft drops that is configured otherwise; then sessions in which anything
-happens, with fixed seeds. No call may be refused for memory, and all that is submitted has to come out. A line for each,
-which ends in 'passed' or 'failed'; the status is 1 where one failed."""
+"""Runs sessions at the ends of every range, with ample memory, from Python. The ranges are those of MAPs, windows,
+segments, packets, identifiers, telemetry frames, what is in transit, and what a spacecraft with another configuration
+drops. Sessions of random events with fixed seeds follow. No call may be refused because memory runs out, and all that
+is submitted must be delivered. Prints a line for each, which ends in 'passed' or 'failed'; the status is 1 if one
+failed."""
 import random
 import sys
 import traceback

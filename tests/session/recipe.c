@@ -1,12 +1,11 @@
-/* Follows the ways on after an alert and after a reset (docs/CONTROL.md) over random links,
- * until that many sessions have begun: `recipe SESSIONS`. Frames are delayed and lost; in some runs they overtake each
- * other, and in some the spacecraft restarts. In some the ground is lost at times, and another goes on at what was
- * kept of it, or at an older record (docs/CONTROL.md, "The ground fails over"). On board each packet has to be the next
- * one that was wanted on its MAP: none twice, and none left out that was said to be on board. recipe.py and recipe.rs
- * do the same, and write the same lines. A second word takes a step away, and is found out: with `early` it believes
- * the first report after an alert, whenever that was made, and begins a session by it even where the ground refuses;
- * with `numbers` it goes by the numbers of the ground and of the report alone, whatever the alert says, and whether
- * the spacecraft has restarted. */
+/* Recovers after alerts and resets (docs/CONTROL.md) over random links, until SESSIONS sessions have begun: `recipe
+ * SESSIONS`. Frames are delayed and lost; in some runs they overtake each other, and in some the spacecraft restarts.
+ * In some the ground is lost at times, and another continues from its record, or from an older one (docs/CONTROL.md,
+ * "The ground fails over"). On board each packet must be the next one expected on its MAP: none twice, and none left
+ * out that was stated to be on board. recipe.py and recipe.rs do the same, and write the same lines. A second argument
+ * removes a step, and the fault is found. With `early` the program believes the first CLCW after an alert, whenever
+ * that was made, and begins a session by it even if the ground refuses. With `numbers` it uses only the numbers of the
+ * ground and of the CLCW, whatever the alert states, and whether or not the spacecraft has restarted. */
 #include "sedgechisel_nodes.h"
 #include <stdio.h>
 #include <stdlib.h>

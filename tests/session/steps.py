@@ -1,11 +1,11 @@
-"""Follows docs/CONTROL.md, "The steps", with a board that does what docs/FLIGHT.md, "Restarts", asks of it, over random
-links, until that many sessions have begun: `steps.py SESSIONS`. The board has a node, or is over the core. Frames are
-delayed and lost. In some runs the board restarts, at any point of its work, in the middle of a write too, or a copy of
-its record is spoiled then, or both; in some it is restarted on purpose; in some the ground leaves a command out, or
-submits one twice; and in some the ground is lost, and another goes on at what was kept of it, or with nothing. Each
-command has to be executed once and in order on its MAP, but for those of which the board says that nothing is known,
-and none may be left out. No alert may show a broken condition in a session in which nothing restarted. A second word,
-one of `FAULTS`, leaves a step out, and is found out; `steps.py faults` writes these words."""
+"""Follows docs/CONTROL.md, "The steps", with a board that does what docs/FLIGHT.md, "Restarts", requires, over random
+links, until SESSIONS sessions have begun: `steps.py SESSIONS`. The board has a node, or uses the core. Frames are
+delayed and lost. In some runs the board restarts, at any point of its work, also during a write, or a copy of its
+record is damaged then, or both. In some it is restarted on purpose. In some the ground leaves out a command, or submits
+one twice. In some the ground is lost, and another continues from its record, or with nothing. Each command must be
+executed once and in order on its MAP, except those about which the board states that nothing is known, and none may be
+left out. No alert may show a broken condition in a session in which nothing restarted. A second argument, one of
+`FAULTS`, leaves out a step, and the fault is found; `steps.py faults` prints these arguments."""
 import collections
 import sys
 
@@ -390,15 +390,6 @@ class Program:
                 self.run.is_done = is_named and not said.waiting or WITHOUT == "end"
                 if not (is_named or said.ready or self.run.is_done):
                     self.stops(now, False)
-
-    def orders_a_restart(self, now):
-        """A command came out of turn: the session ends, and in the silence a restart is ordered, which loses what is on
-        board."""
-        counts["out of turn"] += 1
-        if self.phase == SILENT:
-            self.orders = [RESTART]
-        else:
-            self.stops(now, True)
 
     def begins_where_good(self, said):
         """Begins a session; or orders a restart on purpose, once or several times, after which the silence begins

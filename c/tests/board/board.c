@@ -1,7 +1,7 @@
-/* A board without heap over a spacecraft node, with two MAPs, blocking, packets past the sequence control and telemetry.
- * It has no more memory than c/tools/places.c says of its configuration. A reset without warning takes all of it: the
- * node begins in Lockout then. What survives is the boot count and what was executed; a reset with warning keeps the
- * numbers of the node too. The status is 0 where slots have ended and no call was refused, and else says which was. */
+/* A board without heap over a spacecraft node, with two MAPs, blocking, packets sent by bypass and telemetry. It has no
+ * more memory than c/tools/places.c states for its configuration. A reset without warning erases all of it, and the
+ * node then begins in Lockout. Only the boot count and what was executed survive; a reset with warning also keeps the
+ * numbers of the node. The status is 0 if slots have ended and no call was refused, and otherwise states which was. */
 #include "board.h"
 #include <sedgechisel_memory.h>
 #include <string.h>

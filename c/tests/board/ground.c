@@ -1,7 +1,7 @@
-/* The ground of the board in this folder, over a link with a delay that loses and damages frames, and is dark for a while
- * now and then: `ground SEED SLOTS`, beside the board in one folder. It follows the steps of docs/CONTROL.md after an
- * alert and after a reset, and looks at the boot count. In the end the packets that were executed have to be the next one each
- * time, on each MAP. Its last line says what happened; the status is 0 where all is as wanted. */
+/* The ground of the board in this folder, over a link with a delay that loses and damages frames, and is interrupted
+ * now and then: `ground SEED SLOTS`, in one folder with the board. It follows the steps of docs/CONTROL.md after an
+ * alert and after a reset, and checks the boot count. In the end, each packet that was executed must be the next one on
+ * its MAP. The last line states what happened; the status is 0 if all is as expected. */
 #include "board.h"
 #include <stdio.h>
 #include <stdlib.h>

@@ -1,6 +1,6 @@
-/* What the tests of c/tests ask of a C library, for a LEON3 without an operating system (c/check_leon3): text goes to the
- * serial line of qemu's leon3_generic, memory is one static block, and the compiler's functions for numbers of 64 bits are
- * here. CALLS is the one word that the program gets; it ends by the line `status N`. */
+/* What the tests of c/tests require of a C library, for a LEON3 without an operating system (c/check_leon3): text goes
+ * to the serial line of qemu's leon3_generic, memory is one static block, and the compiler's functions for numbers of
+ * 64 bits are here. CALLS is the one word that the program gets; it ends by the line `status N`. */
 #include <stdarg.h>
 #include <stddef.h>
 #include <stdint.h>

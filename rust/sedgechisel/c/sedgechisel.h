@@ -1,35 +1,36 @@
 /* Sedgechisel for programs in C: the FECF of frames, telecommand frames, space packets, control words, telemetry
- * frames, the receiver FARM-1, the sender FOP-1, packets in segments, packets in telemetry frames, and the commands
- * of a board over restarts. For C99 and later, and for C++.
+ * frames, the receiver FARM-1, the sender FOP-1, packets in segments, packets in telemetry frames, and the commands of
+ * a board over restarts. For C99 and later, and for C++.
  *
- * Nothing here allocates, keeps a state of its own, or calls a function of another library but memcpy, memmove and
- * memset; so each may be called anywhere, from two threads at once too, where they do not share what they write. Each
- * does what its crate's contract says, for every value of its arguments and of the structs behind its pointers: in the
- * proved archive by proof, in portable C as tested. The books are CCSDS 133.0-B-2 (space packets), 132.0-B-3
- * (telemetry), 232.0-B-4 (telecommand) and 232.1-B-2 (COP-1).
+ * No call here allocates memory, keeps a state of its own, or calls a function of another library except memcpy,
+ * memmove and memset. So a program may make each call anywhere, also from two threads at once if they do not share what
+ * they write. Each call does what its crate's contract states, for every value of its arguments and of the structs
+ * behind its pointers. In the proved archive this is proved, in portable C it is tested. The standards are CCSDS
+ * 133.0-B-2 (space packets), 132.0-B-3 (telemetry), 232.0-B-4 (telecommand) and 232.1-B-2 (COP-1).
  *
- * What a caller has to ensure, since nothing can check it:
- * - No pointer is null, and each is aligned for its type; this holds of a pointer to no octets too.
- * - At a pointer to octets, as many octets as the count after it says may be read, and written where the pointer is not
- *   to const; at a pointer to a struct or a number, that struct or number. Octets and structs that are read have been
- *   written before; what is only written need not have been.
- * - What is written overlaps nothing else that the call is given.
- * - A bool is false or true, as it is wherever C or C++ makes it of another value.
+ * A caller must ensure the following, since nothing can check it:
+ * - No pointer is null, and each is aligned for its type; this also holds for a pointer to no octets.
+ * - The octets at a pointer, as many as the count after it states, may be read; if the pointer is not to const, they
+ *   may also be written. The same holds for the struct or the number at a pointer to one. Octets and structs that a
+ *   call reads have been written before; octets and structs that it only writes need not have been.
+ * - What a call writes overlaps nothing else that its arguments point to.
+ * - A bool is false or true, as it always is if C or C++ converts it from another value.
  *
- * What is returned:
+ * What calls return:
  * - A uint8_t is a number of the one enumeration that the call's comment names, or of sedge_status, which all calls
  *   share. It is SEDGE_OK or the first fault that applies, and a call that returns a fault has written nothing. Six
- *   calls return what is no fault: a verdict (sedge_farm_ad), a state (sedge_farm_state), what goes on the link next
- *   (sedge_fop_next), an alert (sedge_fop_clcw, sedge_fop_tick), and what a board does next (sedge_log_next). Those of
- *   them that write have written unless it is SEDGE_ABSENT, SEDGE_WRONG_COUNT or SEDGE_DAMAGED.
- * - A bool says whether something holds (sedge_check_holds), or whether the call has written (sedge_check_append,
- *   sedge_tm_packet, sedge_map_packet). Where it is false nothing is written.
+ *   calls return something other than a fault: a verdict (sedge_farm_ad), a state (sedge_farm_state), what is sent on
+ *   the link next (sedge_fop_next), an alert (sedge_fop_clcw, sedge_fop_tick), and what a board does next
+ *   (sedge_log_next). Those of the six that write something do so whatever they return, except SEDGE_ABSENT,
+ *   SEDGE_WRONG_COUNT and SEDGE_DAMAGED.
+ * - A bool states whether something holds (sedge_check_holds), or whether the call has written (sedge_check_append,
+ *   sedge_tm_packet, sedge_map_packet). If it is false, nothing is written.
  * - A uint16_t is the check of octets (sedge_check), a uint32_t a history (sedge_log_history_after), and a struct
  *   sedge_text a word.
  *
- * SEDGE_CHECK marks each call whose answer says more than that a struct is damaged: a compiler warns where a program
- * does not use it. In C each number of an enumeration is a constant of an unsigned type too, at the end of this file,
- * so that it is compared with an answer or a field without a conversion (docs/REVIEW.md, "MISRA C"). */
+ * SEDGE_CHECK marks each call whose result can mean more than that a struct is damaged: a compiler warns if a program
+ * ignores the result. In C each number of an enumeration is also a constant of an unsigned type, at the end of this
+ * file, so that comparing it with a result or a field needs no conversion (docs/REVIEW.md, "MISRA C"). */
 #ifndef SEDGECHISEL_H
 #define SEDGECHISEL_H
 
@@ -43,7 +44,7 @@
 extern "C" {
 #endif
 
-/* Before a call whose answer is not to be left unused: gcc and clang warn of it. A program may define it itself. */
+/* Marks a call whose result must be used: gcc and clang warn if it is not. A program may define it itself. */
 #ifndef SEDGE_CHECK
 #ifdef __GNUC__
 #define SEDGE_CHECK __attribute__((warn_unused_result))
@@ -52,13 +53,13 @@ extern "C" {
 #endif
 #endif
 
-/* The version of this header; sedge_version() gives that of the library, as "0.3.0". */
+/* The version of this header; sedge_version() returns the version of the library, such as "0.3.0". */
 #define SEDGE_VERSION_MAJOR 0
 #define SEDGE_VERSION_MINOR 3
 #define SEDGE_VERSION_PATCH 0
 
-/* The most octets: of a space packet (133.0-B-2, 4.1), of a telecommand frame (232.0-B-4, 4.1.2.7), of the data
- * of a segment in one with its FECF, and of a telemetry frame (132.0-B-3, 4.1). */
+/* The maximum lengths in octets: of a space packet (133.0-B-2, 4.1), of a telecommand frame (232.0-B-4, 4.1.2.7), of
+ * the data of a segment in a telecommand frame with its FECF, and of a telemetry frame (132.0-B-3, 4.1). */
 #define SEDGE_PACKET_LONGEST 65542U
 #define SEDGE_TC_LONGEST 1024U
 #define SEDGE_SEGMENT_LONGEST 1016U
@@ -71,7 +72,7 @@ struct sedge_text {
     char text[20];
 };
 
-/* A sentence of at most 159 characters, with zeros after it; printed as a word is. */
+/* A sentence of at most 159 characters, with zeros after it; printed like a word. */
 struct sedge_advice {
     char text[160];
 };
@@ -82,12 +83,12 @@ struct sedge_text sedge_version(void);
 /* The numbers that all kinds of calls share. */
 enum sedge_status {
     SEDGE_OK = 0,
-    SEDGE_ABSENT = 253,      /* there are not that many segments, or a report says nothing of the units */
+    SEDGE_ABSENT = 253,      /* there are fewer segments, or a CLCW states nothing about the units */
     SEDGE_WRONG_COUNT = 254, /* not the number of octets that the call needs */
-    SEDGE_DAMAGED = 255      /* a struct has a value that no sender, receiver or MAP has, or one out of its enum */
+    SEDGE_DAMAGED = 255      /* a struct has a value that no sender, receiver or MAP has, or one outside its enum */
 };
 
-/* Where data are in the octets that were read: count octets, the first at octets + from. */
+/* The position of data in the octets that were read: count octets, the first at octets + from. */
 struct sedge_part {
     size_t from;
     size_t count;
@@ -96,14 +97,14 @@ struct sedge_part {
 /* ---- The check: generator x^16 + x^12 + x^5 + 1, register preset to ones, no inversion at the end (232.0-B-4,
  * 4.1.4.2; 132.0-B-3, 4.1.6.2). ---- */
 
-/* The check of the octets. */
+/* Returns the check of the octets. */
 uint16_t sedge_check(const uint8_t *octets, size_t count);
 
-/* Sets the last two octets to the check of those before them, and returns true; for fewer than two octets it returns
+/* Sets the last two octets to the check of those before them, and returns true; for fewer than two octets, returns
  * false and writes nothing. */
 SEDGE_CHECK bool sedge_check_append(uint8_t *octets, size_t count);
 
-/* Whether the last two octets are the check of those before them; false for fewer than two octets (232.0-B-4,
+/* Returns whether the last two octets are the check of those before them; false for fewer than two octets (232.0-B-4,
  * 4.1.4.3). */
 SEDGE_CHECK bool sedge_check_holds(const uint8_t *octets, size_t count);
 
@@ -117,35 +118,35 @@ enum sedge_clcw_fault {
     SEDGE_CLCW_RANGE = 5    /* a field is too large for its bits, or a flag bit has no name */
 };
 
-/* The flags of a control word, as bits of sedge_clcw.flags (4.2.1.8). */
+/* The flags of a CLCW, as bits of sedge_clcw.flags (4.2.1.8). */
 enum sedge_clcw_flags {
-    SEDGE_CLCW_RETRANSMIT = 0x08,  /* frames have to be sent again, from the report value on */
+    SEDGE_CLCW_RETRANSMIT = 0x08,  /* frames must be retransmitted, from the report value on */
     SEDGE_CLCW_WAIT = 0x10,        /* there is no room for a further frame */
     SEDGE_CLCW_LOCKOUT = 0x20,     /* the receiver is in its state Lockout */
     SEDGE_CLCW_NO_BIT_LOCK = 0x40, /* the receiver has no bit lock */
     SEDGE_CLCW_NO_RF = 0x80        /* the radio frequency channel is not available */
 };
 
-/* A control word. Its flags are of sedge_clcw_flags. */
+/* A CLCW. Its flags are of sedge_clcw_flags. */
 struct sedge_clcw {
     uint8_t status; /* the status field, 3 bits, which is carried and not interpreted */
-    uint8_t vcid;   /* the virtual channel that is reported on, 6 bits */
+    uint8_t vcid;   /* the virtual channel that the CLCW reports on, 6 bits */
     uint8_t flags;  /* the flags */
     uint8_t farm_b; /* the FARM-B counter, 2 bits */
     uint8_t value;  /* the report value, V(R) of the receiver */
 };
 
-/* Reads four octets as a control word, of whichever virtual channel: compare vcid with your own before you use its
- * value or its flags (sedge_fop_clcw does so itself). Returns 0, or the first of 1 to 4 of sedge_clcw_fault, or
- * SEDGE_WRONG_COUNT if the octets are not four. */
+/* Reads four octets as a CLCW of any virtual channel: compare its vcid with your own before you use its value or its
+ * flags (sedge_fop_clcw does so itself). Returns 0, or the first of 1 to 4 of sedge_clcw_fault, or SEDGE_WRONG_COUNT if
+ * the octets are not four. */
 SEDGE_CHECK uint8_t sedge_clcw_decode(const uint8_t *octets, size_t count, struct sedge_clcw *word);
 
-/* Writes a control word as four octets. Returns 0, or SEDGE_CLCW_RANGE, or SEDGE_WRONG_COUNT if the room is not four
- * octets. */
+/* Writes a CLCW as four octets. Returns 0, or SEDGE_CLCW_RANGE, or SEDGE_WRONG_COUNT if the buffer is not four octets
+ * long. */
 SEDGE_CHECK uint8_t sedge_clcw_encode(const struct sedge_clcw *word, uint8_t *out, size_t room);
 
-/* ---- The receiver FARM-1 of one virtual channel (232.1-B-2, section 6). Give it the frames of its own spacecraft and
- * channel alone: compare scid and vcid of each frame with your own first, since no call here sees them. ---- */
+/* ---- The receiver FARM-1 of one virtual channel (232.1-B-2, section 6). Pass it only the frames of its own spacecraft
+ * and channel: compare scid and vcid of each frame with your own first, since no call here sees them. ---- */
 
 /* Why a call of the receiver or of the sender is refused. */
 enum sedge_cop_fault {
@@ -154,15 +155,15 @@ enum sedge_cop_fault {
     SEDGE_COP_LIMIT = 3,      /* the transmission limit is 0 */
     SEDGE_COP_TIMER = 4,      /* the timer's value is 0 */
     SEDGE_COP_NOT_OPEN = 6,   /* the sender is in its state S6 */
-    SEDGE_COP_BUSY = 7,       /* a unit waits already */
+    SEDGE_COP_BUSY = 7,       /* a unit is already waiting */
     SEDGE_COP_WRONG_STATE = 8 /* the directive is not allowed in the sender's state */
 };
 
 /* What the receiver does with a Type-AD frame. */
 enum sedge_verdict {
-    SEDGE_ACCEPTED = 0, /* the expected frame: its data is handed on, V(R) steps */
-    SEDGE_AHEAD = 1,    /* in the positive window, ahead of V(R): discarded, a retransmission is asked for */
-    SEDGE_NO_BUFFER = 2, /* the expected frame, and no room for it: discarded, a retransmission is asked for */
+    SEDGE_ACCEPTED = 0, /* the expected frame: its data is passed on, and V(R) increases by 1 */
+    SEDGE_AHEAD = 1,    /* in the positive window, ahead of V(R): discarded, a retransmission is requested */
+    SEDGE_NO_BUFFER = 2, /* the expected frame, but no room for it: discarded, a retransmission is requested */
     SEDGE_BEHIND = 3,   /* in the negative window: a repetition, discarded */
     SEDGE_OUTSIDE = 4,  /* outside both windows: discarded, the receiver is locked */
     SEDGE_DISCARDED = 5 /* discarded because of the state */
@@ -171,15 +172,15 @@ enum sedge_verdict {
 /* The receiver's state (6.1.2). */
 enum sedge_farm_mode {
     SEDGE_FARM_OPEN = 0,   /* S1: frames are accepted */
-    SEDGE_FARM_WAIT = 1,   /* S2: no room for a frame was left; a release opens again */
-    SEDGE_FARM_LOCKOUT = 2 /* S3: a number outside the window came; Unlock alone opens again */
+    SEDGE_FARM_WAIT = 1,   /* S2: there was no room for a frame; a release opens the receiver again */
+    SEDGE_FARM_LOCKOUT = 2 /* S3: a number outside both windows arrived; only Unlock opens the receiver again */
 };
 
 /* A receiver, which the caller keeps. Begin it with sedge_farm_open; its fields may be read at any time. Each call
  * checks that the fields are those of a receiver: the width even, 2 to 254; the flags 0 or 1; the retransmit flag 1 if
  * the wait flag is; FARM-B 0 to 3. If they are not, it returns SEDGE_DAMAGED and changes nothing. */
 struct sedge_farm {
-    uint8_t width;      /* of both windows together; each is half of it */
+    uint8_t width;      /* the width of both windows together; each is half of it */
     uint8_t vr;         /* V(R), the number of the next frame to be accepted */
     uint8_t lockout;    /* the flags, 0 or 1 */
     uint8_t wait;
@@ -187,29 +188,30 @@ struct sedge_farm {
     uint8_t farm_b;     /* FARM-B, the count of Type-B frames modulo 4 */
 };
 
-/* Begins a receiver in its state Open, with all flags 0 and FARM-B 0, which expects the number vr. Returns 0, or
+/* Begins a receiver in state Open, with all flags 0 and FARM-B 0, that expects the number vr. Returns 0, or
  * SEDGE_COP_WIDTH. */
 SEDGE_CHECK uint8_t sedge_farm_open(struct sedge_farm *farm, uint8_t width, uint8_t vr);
 
-/* A Type-AD frame with the number n has arrived; buffer_free says whether there is room for its data. Returns its
- * verdict, of sedge_verdict: if it is SEDGE_ACCEPTED, hand the data on. Or returns SEDGE_DAMAGED. */
+/* Judges a Type-AD frame with the number n; buffer_free states whether there is room for its data. Returns its verdict,
+ * of sedge_verdict: if it is SEDGE_ACCEPTED, pass on the data. Or returns SEDGE_DAMAGED. */
 SEDGE_CHECK uint8_t sedge_farm_ad(struct sedge_farm *farm, uint8_t n, bool buffer_free);
 
-/* A Type-BD frame has arrived; hand its data on in every state. Returns 0, or SEDGE_DAMAGED. */
+/* Counts a Type-BD frame; pass on its data in every state. Returns 0, or SEDGE_DAMAGED. */
 uint8_t sedge_farm_bd(struct sedge_farm *farm);
 
-/* The control command Unlock has arrived. Returns 0, or SEDGE_DAMAGED. */
+/* Executes the control command Unlock. Returns 0, or SEDGE_DAMAGED. */
 uint8_t sedge_farm_unlock(struct sedge_farm *farm);
 
-/* The control command Set V(R) has arrived; in Lockout it is counted, and V(R) stays. Returns 0, or SEDGE_DAMAGED. */
+/* Executes the control command Set V(R); in Lockout it is only counted, and V(R) does not change. Returns 0, or
+ * SEDGE_DAMAGED. */
 uint8_t sedge_farm_set_vr(struct sedge_farm *farm, uint8_t vr);
 
-/* There is room on board again. Returns 0, or SEDGE_DAMAGED. */
+/* Records that there is room on board again. Returns 0, or SEDGE_DAMAGED. */
 uint8_t sedge_farm_released(struct sedge_farm *farm);
 
-/* Makes the control word (232.0-B-4, 4.2) that reports on the receiver as it is, for the virtual channel vcid; the
- * flags for the radio channel and bit lock are 0. Returns 0, or SEDGE_DAMAGED, or SEDGE_CLCW_RANGE if vcid is not below
- * 64. */
+/* Writes the CLCW (232.0-B-4, 4.2) that reports the receiver's present state, for the virtual channel vcid; the
+ * flags for the radio channel and bit lock are 0. Returns 0, or SEDGE_DAMAGED, or SEDGE_CLCW_RANGE if vcid is not
+ * below 64. */
 SEDGE_CHECK uint8_t sedge_farm_control_word(const struct sedge_farm *farm, uint8_t vcid, struct sedge_clcw *word);
 
 /* Returns the state, of sedge_farm_mode, or SEDGE_DAMAGED. */
@@ -219,7 +221,7 @@ SEDGE_CHECK uint8_t sedge_farm_state(const struct sedge_farm *farm);
  *
  * The sender keeps numbers; its caller keeps the units, which are the data of frames. One unit waits to be sent for the
  * first time, and those that are sent and not acknowledged have the numbers from NN(R) to V(S) - 1, modulo 256, at most
- * 127 of them. So 256 places, one for each number, always serve:
+ * 127 of them. So 256 slots, one for each number, are always enough:
  *
  *     static struct unit waiting, sent[256];
  *     ...
@@ -236,9 +238,9 @@ SEDGE_CHECK uint8_t sedge_farm_state(const struct sedge_farm *farm);
  *     uint8_t released;
  *     uint8_t alert = sedge_fop_clcw(&fop, CHANNEL, &word, &released);
  *
- * A report acknowledges the oldest units sent, as many as it writes to released; their places may be used again. An
- * alert (of a report, of a tick, or by sedge_fop_terminate) discards all units, the one that waits too; nothing else
- * does. After an alert, sedge_fop_accepted_beyond says by a later report which of them were accepted on board. ---- */
+ * A CLCW acknowledges the oldest units sent, as many as the call writes to released; their slots may be used again. An
+ * alert (from a CLCW, from a tick, or by sedge_fop_terminate) discards all units, also the one that waits; nothing else
+ * does. After an alert, sedge_fop_accepted_beyond shows from a later CLCW which of them were accepted on board. ---- */
 
 /* The sender's state (5.1.2). */
 enum sedge_fop_state {
@@ -250,7 +252,7 @@ enum sedge_fop_state {
     SEDGE_FOP_S6 = 6  /* initial */
 };
 
-/* The control command of S5, and whether it has to be sent. */
+/* The control command of S5, and whether it must be sent. */
 enum sedge_control {
     SEDGE_CONTROL_IDLE = 0, /* none, as in all other states */
     SEDGE_CONTROL_UNLOCK_DUE = 1,
@@ -271,33 +273,36 @@ enum sedge_alert {
     SEDGE_ALERT_TERMINATED = 7 /* sedge_fop_terminate */
 };
 
-/* What goes on the link next. */
+/* What is to be sent on the link next. */
 enum sedge_next {
     SEDGE_NEXT_NOTHING = 0,
     SEDGE_NEXT_UNLOCK = 1, /* the control command Unlock, in a Type-BC frame */
     SEDGE_NEXT_SET_VR = 2, /* the control command Set V(R) with the number, in a Type-BC frame */
     SEDGE_NEXT_FIRST = 3,  /* the unit that waits, in a Type-AD frame with the number; keep it under that number */
-    SEDGE_NEXT_AGAIN = 4   /* the unit kept under the number, in a Type-AD frame with it */
+    SEDGE_NEXT_AGAIN = 4   /* the unit kept under the number, in a Type-AD frame with that number */
 };
 
 /* A sender, which the caller keeps. Begin it with sedge_fop_open; its fields may be read at any time. Each call checks
- * that the fields are those that a sender comes to. If they are not, it returns SEDGE_DAMAGED and changes nothing:
+ * that a sender can have these fields. If it cannot, the call returns SEDGE_DAMAGED and changes nothing. The
+ * conditions:
  * - the ranges below; V(S) - NN(R), modulo 256, is at most room, and in S1 to S5 it is the number of units sent;
- * - units are sent in S1 to S3 alone, in S2 and S3 at least one; in S6 none waits;
- * - the timer runs in S1 to S3 just while units are sent, in S4, and in S5 once the command is sent; in S6 it is off;
+ * - only S1 to S3 have sent units, S2 and S3 at least one; in S6 no unit waits;
+ * - the timer runs in S1 to S3 exactly while there are sent units, in S4, and in S5 once the command is sent; in S6 it
+ *   is off;
  * - only S5 has a control command, and always one; the number of Set V(R) is V(S).
- * The count may be any from 1. So a sender of such fields goes on: while it awaits a report the timer runs, or a
- * command is due. */
+ * The transmission count may be any number from 1. A sender with such fields always continues: while it awaits a CLCW,
+ * the timer runs or a command is due. */
 struct sedge_fop {
     uint16_t timer;  /* the timer's value in ticks, at least 1 */
     uint16_t ticks;  /* the ticks that are left while the timer runs, and 0 while it is off */
-    uint8_t room;    /* half the receiver's window width, 1 to 127: the most units sent and not acknowledged */
+    uint8_t room;    /* half the receiver's window width, 1 to 127: the maximum number of units sent and not
+                      * acknowledged */
     uint8_t state;   /* of sedge_fop_state */
     uint8_t vs;      /* V(S), the number of the next unit to be sent for the first time */
     uint8_t nn;      /* NN(R), the number that the receiver was last known to expect */
     uint8_t waiting; /* whether a unit waits to be sent for the first time, 0 or 1 */
     uint8_t sent;    /* the number of units sent and not acknowledged, at most room */
-    uint8_t due;     /* the number of these, the last ones, that are due to be sent again */
+    uint8_t due;     /* the number of these, the last ones, that are due to be retransmitted */
     uint8_t window;  /* the window K, 1 to room */
     uint8_t limit;   /* the transmission limit, at least 1 */
     uint8_t count;   /* the transmission count, at least 1 */
@@ -305,21 +310,20 @@ struct sedge_fop {
     uint8_t vr;      /* the number of the control command Set V(R), and 0 if there is no such command */
 };
 
-/* Begins a sender in its state S6 with V(S) and NN(R) 0, to a receiver of this window width, with the window K, the
+/* Begins a sender in state S6 with V(S) and NN(R) 0, for a receiver of this window width, with the window K, the
  * transmission limit and the timer's value in ticks. Returns 0, or the first of SEDGE_COP_WIDTH (not even, 2 to 254),
  * SEDGE_COP_WINDOW (not 1 to half the width), SEDGE_COP_LIMIT (0) and SEDGE_COP_TIMER (0). */
 SEDGE_CHECK uint8_t sedge_fop_open(struct sedge_fop *fop, uint8_t width, uint8_t window, uint8_t limit, uint16_t timer);
 
-/* The directives (5.2.4): what each does, and when it is refused, with its sedge_cop_fault. The calls by name are made
- * of these and their notes, in each language. */
+/* The directives (5.2.4): what each does, and when it is refused, with its sedge_cop_fault. The calls by name are
+ * generated from these and their notes, in each language. */
 enum sedge_directive {
     SEDGE_INIT_WITHOUT_CHECK = 1, /* initiate without CLCW check: S6 to S1; or 8 unless in S6 */
-    SEDGE_INIT_WITH_CHECK = 2,    /* initiate with CLCW check: S6 to S4, until a report agrees; or 8 unless in S6 */
+    SEDGE_INIT_WITH_CHECK = 2,    /* initiate with CLCW check: S6 to S4, until a CLCW agrees; or 8 unless in S6 */
     SEDGE_INIT_UNLOCK = 3,        /* initiate with Unlock: S6 to S5, and Unlock is sent; or 8 unless in S6 */
     SEDGE_INIT_SET_VR = 4,        /* initiate with Set V(R): S6 to S5, V(S) and NN(R) to value, and Set V(R) is sent;
                                    * or 8 unless in S6 */
-    SEDGE_TERMINATE = 5,          /* terminate: to S6 with the alert Terminated, which lets go of all units; or 8 in
-                                   * S6 */
+    SEDGE_TERMINATE = 5,          /* terminate: to S6 with the alert Terminated, which discards all units; or 8 in S6 */
     SEDGE_SET_VS = 6,             /* set V(S), and NN(R) too, to value; or 8 unless in S6 */
     SEDGE_SET_WINDOW = 7,         /* set the window K to value; or 2 unless it is 1 to half the receiver's window
                                    * width */
@@ -327,9 +331,9 @@ enum sedge_directive {
     SEDGE_SET_TIMER = 9           /* set the timer to value, in ticks; or 4 if it is 0 */
 };
 
-/* Gives the sender a directive, of sedge_directive, with its value; one that has none ignores it. Returns 0; or
- * SEDGE_COP_WRONG_STATE; or for a value out of its range SEDGE_COP_WINDOW, SEDGE_COP_LIMIT or SEDGE_COP_TIMER; or
- * SEDGE_DAMAGED, also for a directive that is none, and for a number V(R) or V(S) above 255. */
+/* Gives the sender a directive, of sedge_directive, with its value; a directive without a value ignores it. Returns 0;
+ * or SEDGE_COP_WRONG_STATE; or for a value out of range SEDGE_COP_WINDOW, SEDGE_COP_LIMIT or SEDGE_COP_TIMER; or
+ * SEDGE_DAMAGED, also for a number that is not a directive, and for a V(R) or V(S) above 255. */
 SEDGE_CHECK uint8_t sedge_fop_directive(struct sedge_fop *fop, uint8_t directive, uint16_t value);
 
 /* Each directive by its name. Up to 0.2 these were calls of the library; they are sedge_fop_directive now. */
@@ -361,34 +365,33 @@ static inline SEDGE_CHECK uint8_t sedge_fop_set_timer(struct sedge_fop *fop, uin
     return sedge_fop_directive(fop, SEDGE_SET_TIMER, timer);
 }
 
-/* Submits a unit, to be sent under sequence control: it waits, and the caller keeps it. Returns 0, or SEDGE_DAMAGED, or
- * SEDGE_COP_NOT_OPEN in S6, or SEDGE_COP_BUSY while another one waits. */
+/* Submits a unit to be sent under sequence control. The unit waits, and the caller keeps it. Returns 0, or
+ * SEDGE_DAMAGED, or SEDGE_COP_NOT_OPEN in S6, or SEDGE_COP_BUSY while another one waits. */
 SEDGE_CHECK uint8_t sedge_fop_submit(struct sedge_fop *fop);
 
-/* Takes what goes on the link next. Returns one of sedge_next, and writes its number, or 0 if it has none; or returns
- * SEDGE_DAMAGED, with nothing written. */
+/* Takes what is to be sent on the link next. Returns one of sedge_next, and writes its number, or 0 if it has none; or
+ * returns SEDGE_DAMAGED, with nothing written. */
 SEDGE_CHECK uint8_t sedge_fop_next(struct sedge_fop *fop, uint8_t *number);
 
-/* A control word has arrived, and the sender is that of the virtual channel vcid. The call compares this with the
- * vcid of the word; the caller has compared the scid of the telemetry frame that carried it. Returns the alert, of
- * sedge_alert, and writes the number of units that are acknowledged, the oldest of those sent; or with nothing
- * written and nothing changed it returns the first of SEDGE_ABSENT, if the word reports on another channel, and
- * SEDGE_DAMAGED. */
+/* Takes a CLCW for the sender of the virtual channel vcid. The call compares this number with the CLCW's vcid; the
+ * caller has already compared the scid of the telemetry frame that carried the CLCW. Returns the alert, of sedge_alert,
+ * and writes the number of units that are acknowledged, the oldest of those sent; or with nothing written and nothing
+ * changed it returns the first of SEDGE_ABSENT, if the CLCW reports on another channel, and SEDGE_DAMAGED. */
 SEDGE_CHECK uint8_t sedge_fop_clcw(struct sedge_fop *fop, uint8_t vcid, const struct sedge_clcw *word,
                                    uint8_t *released);
 
-/* A tick of the clock has passed. Returns the alert, of sedge_alert, or SEDGE_DAMAGED. */
+/* Counts a tick of the clock. Returns the alert, of sedge_alert, or SEDGE_DAMAGED. */
 SEDGE_CHECK uint8_t sedge_fop_tick(struct sedge_fop *fop);
 
-/* Writes how many of the units that were sent and not acknowledged were accepted on board when a report of this value
- * was made: the oldest ones, those with the numbers from NN(R) to value - 1 (5.1). It does so after an alert too, until
- * V(S) is set or an initiation begins, and goes by the numbers alone: after an alert that shows a broken condition
- * nothing of them is known, whatever it writes. If V(S) is NN(R) there are no such units, and it writes 0 whatever the
- * value. Returns 0, or SEDGE_DAMAGED, or SEDGE_ABSENT if there are such units and the value does not lie from NN(R) to
- * V(S), so that nothing is known of them; nothing is written then. */
+/* Writes how many of the units that were sent and not acknowledged were accepted on board when a CLCW of this value was
+ * made. They are the oldest ones, with the numbers from NN(R) to value - 1 (5.1). The call does so after an alert too,
+ * until V(S) is set or an initiation begins. It uses only the numbers: after an alert that shows a broken condition
+ * nothing is known of these units, whatever the call writes. If V(S) is NN(R), there are no such units, and the call
+ * writes 0 for every value. Returns 0, or SEDGE_DAMAGED, or SEDGE_ABSENT if there are such units and the value does not
+ * lie from NN(R) to V(S), so that nothing is known of them; nothing is written then. */
 SEDGE_CHECK uint8_t sedge_fop_accepted_beyond(const struct sedge_fop *fop, uint8_t value, uint8_t *accepted);
 
-/* The same of a sender with these numbers for NN(R) and V(S). Returns 0, or SEDGE_ABSENT if nothing is known. */
+/* Writes the same number for a sender with this NN(R) and V(S). Returns 0, or SEDGE_ABSENT if nothing is known. */
 SEDGE_CHECK uint8_t sedge_accepted_beyond(uint8_t nn, uint8_t vs, uint8_t value, uint8_t *accepted);
 
 /* ---- Telecommand transfer frames of at most 1,024 octets (232.0-B-4, 4.1), with or without their FECF. ---- */
@@ -401,10 +404,10 @@ enum sedge_tc_fault {
     SEDGE_TC_LENGTH = 5,        /* the declared total is not the number of octets, or too small (4.1.2.7) */
     SEDGE_TC_CHECK = 6,         /* the last two octets are not the check of those before them (4.1.4) */
     SEDGE_TC_BYPASS_NUMBER = 7, /* a frame with the bypass flag has a number other than 0 (4.1.2.8) */
-    SEDGE_TC_EMPTY_DATA = 8,    /* no octet in the data field, or a segment header alone */
+    SEDGE_TC_EMPTY_DATA = 8,    /* no octet in the data field, or only a segment header */
     SEDGE_TC_COMMAND = 9,       /* the data of a control frame are neither Unlock nor Set V(R) (4.1.3.3) */
     SEDGE_TC_ROOM = 10,         /* there is too little room for the frame */
-    SEDGE_TC_FIELD_RANGE = 11   /* a field out of its range, no data, or more than 1,024 octets */
+    SEDGE_TC_FIELD_RANGE = 11   /* a field out of range, no data, or more than 1,024 octets */
 };
 
 /* The frame type (4.1.2.3). */
@@ -414,7 +417,7 @@ enum sedge_tc_kind {
     SEDGE_TC_BC = 2  /* a control command, which bypasses it too */
 };
 
-/* Where a segment stands in what it is a part of (4.1.3.2.2.2). */
+/* The position of a segment in what it is a part of (4.1.3.2.2.2). */
 enum sedge_segment_flags {
     SEDGE_SEGMENT_CONTINUING = 0,
     SEDGE_SEGMENT_FIRST = 1,
@@ -442,30 +445,30 @@ struct sedge_tc_frame {
 };
 
 /* Reads all of the octets as one frame, which ends with its FECF if checked is true, and writes where the data after
- * the segment header are; a control frame has none, and the part is {0, 0}. The frame may be of any spacecraft and
- * virtual channel: compare scid and vcid with your own before a receiver is given it. Returns 0, or the first of 1 to 9
- * of sedge_tc_fault. */
+ * the segment header are; for a control frame, which has none, the part is {0, 0}. The frame may be of any spacecraft
+ * and virtual channel: compare scid and vcid with your own before you pass the frame to a receiver. Returns 0, or the
+ * first of 1 to 9 of sedge_tc_fault. */
 SEDGE_CHECK uint8_t sedge_tc_decode(const uint8_t *octets, size_t count, bool checked, struct sedge_tc_frame *frame,
                                     struct sedge_part *data);
 
 /* Writes the frame with these data (ignored for a control frame) to the beginning of out, with its FECF if checked is
  * true, and its length in octets, 6 to 1,024, to total. Returns 0, or the first of SEDGE_DAMAGED (the kind, the segment
- * flags or the command is out of its enum), SEDGE_TC_FIELD_RANGE and SEDGE_TC_ROOM. */
+ * flags or the command is not in its enumeration), SEDGE_TC_FIELD_RANGE and SEDGE_TC_ROOM. */
 SEDGE_CHECK uint8_t sedge_tc_encode(const struct sedge_tc_frame *frame, const uint8_t *data, size_t data_count,
                                     bool checked, uint8_t *out, size_t room, size_t *total);
 
-/* Writes the length of the frame that begins with these octets, by its first 5 octets alone; for cutting a stream
+/* Writes the length of the frame that begins with these octets, from its first 5 octets only; use it to cut a stream
  * (4.1.2.7). Returns 0, or SEDGE_TC_SHORT for fewer than 5 octets, or SEDGE_TC_LENGTH if it declares fewer than 5, or
  * with the FECF fewer than 7. */
 SEDGE_CHECK uint8_t sedge_tc_declared(const uint8_t *octets, size_t count, bool checked, size_t *total);
 
-/* Reads the frames that stand one after another in the octets, each as long as it declares (4.1.2.7), and writes a
- * record of 12 octets of each to out, in order: the number of its octets, what sedge_tc_decode returns for it, and the
- * scid, vcid, kind, n, flags, map, command and vr that it writes, or 0 for each where it refuses the frame. The number
- * and the scid have two octets, the lower one first. The data of a Type-AD or a Type-BD frame begin 6 octets after its
- * first. Stops where out has no room for a record, or where no whole frame follows: sedge_tc_declared says of the
- * octets there whether their length is refused. Writes the number of octets of all these frames to total. Returns the
- * number of frames. */
+/* Reads the frames that follow one another in the octets, each as long as it declares (4.1.2.7), and writes a record of
+ * 12 octets for each to out, in order. A record contains the number of the frame's octets, what sedge_tc_decode returns
+ * for it, and the scid, vcid, kind, n, flags, map, command and vr that this call writes, or 0 for each if it refuses
+ * the frame. The number and the scid have two octets, the lower one first. The data of a Type-AD or a Type-BD frame
+ * begin 6 octets after its first. Stops when out has no room for a record, or when no whole frame follows. Call
+ * sedge_tc_declared with the octets there to find out whether their length is refused. Writes the number of octets of
+ * all these frames to total. Returns the number of frames. */
 size_t sedge_tc_frames(const uint8_t *octets, size_t count, bool checked, uint8_t *out, size_t room, size_t *total);
 
 /* ---- Space packets of 7 to 65,542 octets (133.0-B-2, 4.1). ---- */
@@ -475,7 +478,7 @@ enum sedge_packet_fault {
     SEDGE_PACKET_VERSION = 2,             /* the version number is not 000 (4.1.3.2) */
     SEDGE_PACKET_IDLE_WITH_SECONDARY = 3, /* an idle packet with a secondary header (4.1.3.3.3) */
     SEDGE_PACKET_ROOM = 4,                /* there is too little room for the packet */
-    SEDGE_PACKET_FIELD_RANGE = 5 /* a field out of its range, no data or more than 65,536 octets of them, or an idle
+    SEDGE_PACKET_FIELD_RANGE = 5 /* a field out of range, no data or more than 65,536 octets of them, or an idle
                                   * packet with a secondary header */
 };
 
@@ -485,7 +488,7 @@ enum sedge_packet_kind {
     SEDGE_PACKET_TELECOMMAND = 1
 };
 
-/* Where a packet's data stand in what the user sends (4.1.3.4.2). */
+/* The position of a packet's data in what the user sends (4.1.3.4.2). */
 enum sedge_sequence_flags {
     SEDGE_SEQUENCE_CONTINUATION = 0,
     SEDGE_SEQUENCE_FIRST = 1,
@@ -495,42 +498,42 @@ enum sedge_sequence_flags {
 
 /* A packet without its data field. */
 struct sedge_packet {
-    uint16_t apid;     /* the application process identifier, below 2,048; 2,047 is that of idle packets (4.1.3.3.4) */
+    uint16_t apid;     /* the application process identifier, below 2,048; idle packets have 2,047 (4.1.3.3.4) */
     uint16_t count;    /* the sequence count or the packet's name, below 16,384 (4.1.3.4.3) */
     uint8_t kind;      /* of sedge_packet_kind */
     uint8_t secondary; /* whether the data field begins with a secondary header, 0 or 1 (4.1.3.3.3) */
     uint8_t flags;     /* the sequence flags, of sedge_sequence_flags (4.1.3.4.2) */
 };
 
-/* Reads the packet at the beginning of the octets, and writes where its data field is; the packet ends where that ends,
- * and octets after it are ignored. Returns 0, or the first of 1 to 3 of sedge_packet_fault (SEDGE_PACKET_TRUNCATED for
- * fewer octets than declared comes last). */
+/* Reads the packet at the beginning of the octets, and writes where its data field is. The packet ends where its data
+ * field ends, and octets after it are ignored. Returns 0, or the first of 1 to 3 of sedge_packet_fault
+ * (SEDGE_PACKET_TRUNCATED for fewer octets than declared comes last). */
 SEDGE_CHECK uint8_t sedge_packet_decode(const uint8_t *octets, size_t count, struct sedge_packet *packet,
                                         struct sedge_part *data);
 
 /* Writes the packet with this data field to the beginning of out, and its length in octets, 6 more than its data, to
- * total. Returns 0, or the first of SEDGE_DAMAGED (the kind is out of its enum, or the secondary header flag above 1),
- * SEDGE_PACKET_FIELD_RANGE and SEDGE_PACKET_ROOM. */
+ * total. Returns 0, or the first of SEDGE_DAMAGED (the kind is not in its enumeration, or the secondary header flag is
+ * above 1), SEDGE_PACKET_FIELD_RANGE and SEDGE_PACKET_ROOM. */
 SEDGE_CHECK uint8_t sedge_packet_encode(const struct sedge_packet *packet, const uint8_t *data, size_t data_count,
                                         uint8_t *out, size_t room, size_t *total);
 
-/* Writes the length of the packet that begins with these octets, by its first 6 octets alone; for cutting a stream
+/* Writes the length of the packet that begins with these octets, from its first 6 octets only; use it to cut a stream
  * (4.1.3.5). Returns 0, or SEDGE_PACKET_TRUNCATED for fewer than 6 octets, or SEDGE_PACKET_VERSION, or
  * SEDGE_PACKET_IDLE_WITH_SECONDARY. */
 SEDGE_CHECK uint8_t sedge_packet_declared(const uint8_t *octets, size_t count, size_t *total);
 
-/* A check of the sequence counts of all application processes: it shows packets that are missing (133.0-B-2,
- * 4.1.3.4.3). Begin it with sedge_gap_check_open; its field may be read at any time. */
+/* A check of the sequence counts of all application processes, which shows missing packets (133.0-B-2, 4.1.3.4.3).
+ * Begin it with sedge_gap_check_open; its field may be read at any time. */
 struct sedge_gap_check {
-    uint16_t last[2048]; /* by APID; above 16,383 where no packet of it was seen */
+    uint16_t last[2048]; /* by APID; above 16,383 if no packet of the APID was seen */
 };
 
-/* Begins a check of sequence counts, which has seen no packet. */
+/* Begins a check of sequence counts that has seen no packet. */
 void sedge_gap_check_open(struct sedge_gap_check *check);
 
-/* Sees a packet of this APID with this count, as sedge_packet_decode gives them, and writes how many are missing before
- * it to missing: (count - last - 1) modulo 16,384. Returns 0, or SEDGE_ABSENT for the first packet of the APID, which
- * is seen; or SEDGE_PACKET_FIELD_RANGE if apid is not below 2,048 or count not below 16,384. */
+/* Records a packet of this APID with this count, as sedge_packet_decode writes them, and writes the number of packets
+ * missing before it to missing: (count - last - 1) modulo 16,384. Returns 0, or SEDGE_ABSENT for the first packet of
+ * the APID, which is recorded too; or SEDGE_PACKET_FIELD_RANGE if apid is not below 2,048 or count not below 16,384. */
 SEDGE_CHECK uint8_t sedge_gap_check_see(struct sedge_gap_check *check, uint16_t apid, uint16_t count,
                                         uint16_t *missing);
 
@@ -544,14 +547,14 @@ enum sedge_tm_fault {
     SEDGE_TM_STATUS = 4,      /* a flag of the data field status is 1, or its identifier is not 11 (4.1.2.7) */
     SEDGE_TM_POINTER = 5,     /* a first header pointer at or after the data field's end (4.1.2.7.6) */
     SEDGE_TM_NO_OCF = 6,      /* the frame declares no operational control field (4.1.2.4) */
-    SEDGE_TM_MEMORY = 7,      /* there is too little memory for what would be kept */
+    SEDGE_TM_MEMORY = 7,      /* out of memory for what would be kept */
     SEDGE_TM_NOT_A_PACKET = 8, /* not exactly one packet, or an idle packet */
     SEDGE_TM_ROOM = 9,        /* there is too little room for the frame */
-    SEDGE_TM_FIELD_RANGE = 10 /* a field out of its range, a pointer after the data, not 4 to 2,036 octets of data, or
+    SEDGE_TM_FIELD_RANGE = 10 /* a field out of range, a pointer after the data, not 4 to 2,036 octets of data, or
                                * a length outside 16 to 2,048 */
 };
 
-/* The first header pointers that are no place (4.1.2.7.6). */
+/* The first header pointers that are not a place (4.1.2.7.6). */
 enum sedge_pointer {
     SEDGE_POINTER_ONLY_IDLE = 2046, /* there are only idle data in the data field */
     SEDGE_POINTER_NO_START = 2047   /* no packet starts in the data field */
@@ -568,8 +571,8 @@ struct sedge_tm_frame {
 };
 
 /* Reads all of the octets as one frame of this length, and writes where its data are. The frame may be of any
- * spacecraft and virtual channel: compare scid and vcid with your own before an extractor is given it, and scid before
- * its control word is used. Returns 0, or the first of 1 to 6 of sedge_tm_fault. */
+ * spacecraft and virtual channel: compare scid and vcid with your own before you pass the frame to an extractor, and
+ * scid before you use its CLCW. Returns 0, or the first of 1 to 6 of sedge_tm_fault. */
 SEDGE_CHECK uint8_t sedge_tm_decode(const uint8_t *octets, size_t count, size_t length, struct sedge_tm_frame *frame,
                                     struct sedge_part *data);
 
@@ -584,87 +587,89 @@ SEDGE_CHECK uint8_t sedge_tm_encode(const struct sedge_tm_frame *frame, const ui
 /* A builder of the frames of one virtual channel, all of one length. Begin it with sedge_tm_builder_open; its fields
  * may be read at any time. The memory holds the octets that are to be sent: the rest of the packet that was begun, and
  * then the packets that are queued. Each call checks that the fields are those of a builder and that these octets are
- * in the memory, and sedge_tm_builder_build that they are whole packets as far as the frame takes them; if not, it
- * returns SEDGE_DAMAGED and changes nothing. No call looks at the packets that wait after those. */
+ * in the memory. sedge_tm_builder_build also checks that the octets that its frame takes are whole packets. If a check
+ * fails, the call returns SEDGE_DAMAGED and changes nothing. No call reads the packets that wait after those octets. */
 struct sedge_tm_builder {
     size_t from;        /* where the octets that are to be sent are in the memory */
     size_t count;       /* the number of octets that are to be sent */
-    size_t begun;       /* the number of these that are left of the packet that was begun, the first ones */
+    size_t begun;       /* the number of these, the first ones, that are left of the packet that was begun */
     uint16_t scid;      /* the spacecraft identifier, below 1,024 */
-    uint16_t length;    /* the octets of a frame, 16 to 2,048 */
+    uint16_t length;    /* the length of a frame in octets, 16 to 2,048 */
     uint8_t vcid;       /* the virtual channel identifier, below 8 */
     uint8_t next_count; /* the frame count of the next frame, on the master and on the virtual channel */
-    uint8_t idle_left;  /* the octets left of an idle packet, at most 6, which are sent first */
+    uint8_t idle_left;  /* the number of octets left of an idle packet, at most 6, which are sent first */
 };
 
-/* Begins a builder whose frame counts begin at 0, with nothing to be sent. Returns 0, or SEDGE_TM_FIELD_RANGE if scid
- * is not below 1,024, vcid not below 8, or length not from 16 to 2,048. */
+/* Begins a builder with frame counts of 0 and nothing to be sent. Returns 0, or SEDGE_TM_FIELD_RANGE if scid is not
+ * below 1,024, vcid not below 8, or length not from 16 to 2,048. */
 SEDGE_CHECK uint8_t sedge_tm_builder_open(struct sedge_tm_builder *builder, uint16_t scid, uint8_t vcid, size_t length);
 
-/* Queues a packet, all of its octets, after those that are to be sent, at which it does not look. Returns 0, or the
- * first of SEDGE_DAMAGED (the numbers of the struct are no builder's, or its octets are not in the memory),
+/* Queues a packet, all of its octets, after those that are to be sent, which it does not read. Returns 0, or the first
+ * of SEDGE_DAMAGED (no builder has the numbers of the struct, or its octets are not in the memory),
  * SEDGE_TM_NOT_A_PACKET (not exactly one packet, or an idle one) and SEDGE_TM_MEMORY (the octets to be sent and the
- * packet are more than the memory has). */
+ * packet do not fit in the memory). */
 SEDGE_CHECK uint8_t sedge_tm_builder_queue(struct sedge_tm_builder *builder, const uint8_t *packet, size_t count,
                                            uint8_t *memory, size_t room);
 
 /* Writes the next frame to the beginning of out, with this operational control field, of four octets as
- * sedge_clcw_encode writes them, and its length, that of all the builder's frames, to total. Where packets run out
- * within the frame, an idle packet fills it; where nothing is to be sent, the frame has only idle data. Returns 0, or
- * the first of SEDGE_DAMAGED (as for sedge_tm_builder_queue, or the octets that this frame takes are not of whole
- * packets), SEDGE_WRONG_COUNT (the field is not four octets) and SEDGE_TM_ROOM. */
+ * sedge_clcw_encode writes them, and its length, that of all the builder's frames, to total. If packets run out within
+ * the frame, an idle packet fills it; if nothing is to be sent, the frame has only idle data. Returns 0, or the first
+ * of SEDGE_DAMAGED (as for sedge_tm_builder_queue, or the octets that this frame takes are not whole packets),
+ * SEDGE_WRONG_COUNT (the field is not four octets) and SEDGE_TM_ROOM. */
 SEDGE_CHECK uint8_t sedge_tm_builder_build(struct sedge_tm_builder *builder, const uint8_t *ocf, size_t ocf_count,
                                            const uint8_t *memory, size_t memory_count, uint8_t *out, size_t room,
                                            size_t *total);
 
-/* An extractor of the packets of one virtual channel. Begin it as {0, 0, 0, 0}; its fields may be read at any time.
- * The memory holds the part of a packet whose end is to come, and after a frame also the packet that it ended. As many
- * octets as the longest packet, idle ones included, and the data of a frame have together are enough; 67,578 are enough
- * for all packets. SEDGE_DAMAGED is returned for a seen above 1, a part that is not in the memory, and a part where no
- * frame was seen. */
+/* An extractor of the packets of one virtual channel. Initialise it to {0, 0, 0, 0}; its fields may be read at any
+ * time. The memory holds the part of a packet that has not ended, and after a frame also the packet that the frame
+ * ended. The memory is large enough if it has as many octets as the longest packet, idle packets included, and the data
+ * of a frame have together; 67,578 octets are enough for all packets. A call returns SEDGE_DAMAGED if seen is above 1,
+ * if the part is not in the memory, or if there is a part although no frame was seen. */
 struct sedge_tm_extractor {
     size_t from;  /* where the part is in the memory */
-    size_t count; /* the octets of the part, and 0 if there is none */
+    size_t count; /* the number of octets of the part, and 0 if there is none */
     uint8_t last; /* the virtual channel frame count of the last frame, if one was seen */
     uint8_t seen; /* whether a frame was seen, 0 or 1 */
 };
 
-/* What came of a frame: the packets whose last octets it has, but for idle ones. First comes the packet that began in
- * earlier frames, if there is one: the first octets of the memory. Those after it are in the frame's data. */
+/* What became of a frame: the packets whose last octets it contains, except idle ones. If one of them began in an
+ * earlier frame, it is the first, and is at the beginning of the memory. The packets after it are in the frame's
+ * data. */
 struct sedge_tm_extracted {
-    size_t joined;             /* the octets of the packet at the beginning of the memory, and 0 if there is none */
+    size_t joined;             /* the length of the packet at the beginning of the memory, and 0 if there is none */
     struct sedge_part packets; /* where sedge_tm_packet begins in the frame's data */
     uint8_t first;             /* whether this is the first frame, 0 or 1 */
     uint8_t lost;              /* the number of frames missing before it, modulo 256, and 0 for the first (4.1.2.6) */
 };
 
-/* Takes the next frame of the spacecraft and the virtual channel that came, its fields and its data as sedge_tm_decode
- * gives them. Hand its packets on before the next call:
+/* Takes the next frame of the spacecraft and the virtual channel that arrived: its fields and its data, as
+ * sedge_tm_decode writes them. Use its packets before the next call:
  *
- *     if (extracted.joined > 0) hand_on(memory, extracted.joined);
+ *     if (extracted.joined > 0) use_packet(memory, extracted.joined);
  *     struct sedge_part packet = extracted.packets;
- *     while (sedge_tm_packet(data, data_count, &packet)) hand_on(data + packet.from, packet.count);
+ *     while (sedge_tm_packet(data, data_count, &packet)) use_packet(data + packet.from, packet.count);
  *
- * Where frames are missing, the part before them is dropped. Returns 0, or the first of SEDGE_DAMAGED,
+ * If frames are missing, the part before them is dropped. Returns 0, or the first of SEDGE_DAMAGED,
  * SEDGE_TM_FIELD_RANGE (the pointer is after the data) and SEDGE_TM_MEMORY (the packet that the frame ends and the part
- * that it leaves are more than the memory has). The frame after a refused one shows that one as missing. */
+ * that it leaves do not fit in the memory). A refused frame counts as missing when the next one arrives. */
 SEDGE_CHECK uint8_t sedge_tm_extractor_frame(struct sedge_tm_extractor *extractor, const struct sedge_tm_frame *frame,
                                              const uint8_t *data, size_t data_count, uint8_t *memory, size_t room,
                                              struct sedge_tm_extracted *extracted);
 
-/* Goes on to the packet after this part of a frame's data that is not idle. Returns true, and the part is that packet;
- * or false, with nothing written, if there is none. */
+/* Finds the next packet that is not idle after this part of a frame's data. Returns true and writes where that packet
+ * is; or returns false and writes nothing if there is none. */
 SEDGE_CHECK bool sedge_tm_packet(const uint8_t *data, size_t data_count, struct sedge_part *packet);
 
-/* Takes the frames of this length that stand one after another in the octets, each as sedge_tm_decode and then
- * sedge_tm_extractor_frame take it, and writes a record of 19 octets of each to out, in order: the number of octets of
- * its packets, of four octets, the lowest one first; the first fault of these two calls, or 0; then first and lost, and
- * dropped, which is 1 if a packet that was begun is dropped and is not idle, or 0; then the scid and the pointer, of
- * two octets, the lower one first, the vcid, mc_count, vc_count and ocf, or 0 for each where it is no frame. The
- * packets of all these frames go to packets one after another: sedge_map_packet finds where each begins. Stops where
- * out has no room for a record, or packets for as many octets as the memory and a frame have, or where no whole frame
- * follows; a length of 0 is that of no frame. Writes the number of octets of all these packets to total. Returns the
- * number of frames. */
+/* Takes the frames of this length that follow one another in the octets, each as sedge_tm_decode and then
+ * sedge_tm_extractor_frame take it. Writes a record of 19 octets for each frame to out, in order. A record contains the
+ * number of octets of the frame's packets (four octets, the lowest one first), and the first fault of these two calls,
+ * or 0. Then come first, lost and dropped; dropped is 1 if a begun packet that is not idle is dropped, and otherwise 0.
+ * The record ends with the frame's fields: the scid and the pointer (two octets each, the lower one first), the vcid,
+ * mc_count, vc_count and ocf. These fields are 0 if the octets do not form a valid frame. Writes the packets of all
+ * these frames to packets, one after another: sedge_map_packet finds where each begins. Stops when out has no room for
+ * a record, or when packets has no room for as many octets as the memory and a frame have together. It also stops when
+ * no whole frame follows, and takes no frame if the length is 0. Writes the number of octets of all these packets to
+ * total. Returns the number of frames. */
 size_t sedge_tm_extractor_frames(struct sedge_tm_extractor *extractor, const uint8_t *octets, size_t count,
                                  size_t frame_length, uint8_t *memory, size_t memory_room, uint8_t *out,
                                  size_t out_room, uint8_t *packets, size_t packets_room, size_t *total);
@@ -683,38 +688,38 @@ enum sedge_dropped {
                                      * alone, has more octets than the memory */
 };
 
-/* Where the packets are that are whole now. */
+/* The position of the packets that are now whole. */
 enum sedge_where {
     SEDGE_NO_PACKET = 0,
     SEDGE_IN_MEMORY = 1, /* one packet, the first octets of the memory */
-    SEDGE_IN_DATA = 2    /* the segment's data: one packet, or with blocking one or more, one after another, of which
-                          * there are at most 145 (1,016 / 7), whatever the sender's limits are */
+    SEDGE_IN_DATA = 2    /* the segment's data: one packet, or with blocking one or more, one after another, at most
+                          * 145 (1,016 / 7) whatever the sender's limits */
 };
 
-/* A MAP on board, which the caller keeps with its memory: as many octets as the longest packet may have. Begin it as
- * {0, 0, 0}, or with blocking, where an alone segment may hold several whole packets, as {0, 0, 1}. The first octets of
- * the memory are the open part, the beginning of a packet that is not whole yet. SEDGE_DAMAGED is returned for a flag
- * above 1, a count above the memory's, and a count above 0 with no part open. */
+/* A MAP on board. The caller keeps it, and its memory of as many octets as the longest packet may have. Initialise it
+ * to {0, 0, 0}, or with blocking to {0, 0, 1}; with blocking, an alone segment may hold several whole packets. The
+ * first octets of the memory are the open part, the beginning of a packet that is not whole yet. A call returns
+ * SEDGE_DAMAGED if a flag is above 1, if count is above the memory's, or if count is above 0 with no part open. */
 struct sedge_map {
     size_t count;     /* the octets of the open part, and 0 if none is open */
     uint8_t open;     /* whether a part is open, 0 or 1 */
     uint8_t blocking; /* whether a segment may hold several whole packets, 0 or 1 */
 };
 
-/* What came of a segment. If a part was interrupted, there may be packets too. */
+/* What became of a segment. If a part was interrupted, there may be packets too. */
 struct sedge_taken {
     size_t count;    /* the octets of all the packets together, and 0 if there are none */
     uint8_t where;   /* of sedge_where */
     uint8_t dropped; /* of sedge_dropped, the later of two */
 };
 
-/* Takes the next segment of the MAP, its flags of sedge_segment_flags and its data. Hand the packets that are whole now
- * on before the next call. Returns 0, or SEDGE_DAMAGED, also for flags above 3. */
+/* Takes the next segment of the MAP: its flags, of sedge_segment_flags, and its data. Pass on the packets that are
+ * whole now before the next call. Returns 0, or SEDGE_DAMAGED, also for flags above 3. */
 SEDGE_CHECK uint8_t sedge_map_take(struct sedge_map *map, uint8_t flags, const uint8_t *data, size_t data_count,
                                    uint8_t *memory, size_t room, struct sedge_taken *taken);
 
-/* Goes on to the packet after this part of the octets; begin with {0, 0}. Returns true, and the part is that packet; or
- * false, with nothing written, if there is none. */
+/* Moves to the packet after this part of the octets; begin with {0, 0}. Returns true, and the part is that packet; or
+ * returns false and writes nothing if there is none. */
 SEDGE_CHECK bool sedge_map_packet(const uint8_t *octets, size_t count, struct sedge_part *packet);
 
 /* Why octets are not cut into segments. */
@@ -723,21 +728,21 @@ enum sedge_map_fault {
     SEDGE_MAP_TOO_LONG = 2      /* a packet has more octets than max_packet */
 };
 
-/* How a sender cuts packets. SEDGE_DAMAGED is returned for a part of 0 and for a blocking above 1. */
+/* How a sender cuts packets. A call returns SEDGE_DAMAGED if part is 0 or blocking is above 1. */
 struct sedge_limits {
-    uint32_t part;       /* the most octets of data in a segment, at least 1 */
-    uint32_t max_packet; /* the most octets of a packet */
+    uint32_t part;       /* the maximum length of a segment's data in octets, at least 1 */
+    uint32_t max_packet; /* the maximum length of a packet in octets */
     uint8_t blocking;    /* whether packets that have at most part octets together go into one segment, 0 or 1 */
 };
 
-/* Writes the number of segments that a packet is cut into, or with blocking one or more packets, one after another.
+/* Writes the number of segments into which a packet is cut, or with blocking one or more packets, one after another.
  * Returns 0, or SEDGE_DAMAGED, or the first of sedge_map_fault. */
 SEDGE_CHECK uint8_t sedge_map_count(const uint8_t *octets, size_t count, const struct sedge_limits *limits,
                                     size_t *segments);
 
-/* Writes segment k of these, counted from 0: its flags of sedge_segment_flags, and where its data are in the octets.
- * Each call goes through the packets from the first, so with blocking all segments of n packets take time in proportion
- * to n * n. Returns what sedge_map_count does, or SEDGE_ABSENT if there are not that many. */
+/* Writes segment k of these, counted from 0: its flags, of sedge_segment_flags, and where its data are in the octets.
+ * Each call starts from the first packet, so with blocking the time for all segments of n packets grows as n * n.
+ * Returns what sedge_map_count does, or SEDGE_ABSENT if there are fewer segments. */
 SEDGE_CHECK uint8_t sedge_map_segment(const uint8_t *octets, size_t count, const struct sedge_limits *limits,
                                       size_t k, uint8_t *flags, struct sedge_part *data);
 
@@ -745,12 +750,12 @@ SEDGE_CHECK uint8_t sedge_map_segment(const uint8_t *octets, size_t count, const
  * that are executed once"). ---- */
 
 enum sedge_log_fault {
-    SEDGE_LOG_LAYOUT = 1,       /* not exactly one packet of this layout, or not as many octets as the layout has */
-    SEDGE_LOG_CHECK = 2,        /* the check does not hold, or a field has a value that no layout gives it */
+    SEDGE_LOG_LAYOUT = 1,       /* not exactly one packet of this layout, or not the layout's number of octets */
+    SEDGE_LOG_CHECK = 2,        /* the check does not hold, or a field has a value that the layout does not allow */
     SEDGE_LOG_STARTING = 3,     /* the board has started, and a copy of its record is being repaired */
     SEDGE_LOG_BUSY = 4,         /* the record is being written, a command is executed, or a restart is due */
     SEDGE_LOG_LOST = 5,         /* the board has lost its record */
-    SEDGE_LOG_BEHIND = 6,       /* the command's number is that of one that was executed or passed over */
+    SEDGE_LOG_BEHIND = 6,       /* a command with this number was executed or passed over */
     SEDGE_LOG_AHEAD = 7,        /* the command's number is above the next one */
     SEDGE_LOG_OTHER_BOOT = 8,   /* the order is for another boot count */
     SEDGE_LOG_NOT_LOST = 9,     /* the order brings a record, and the board has its own */
@@ -778,28 +783,30 @@ enum sedge_log_status_kind {
 
 enum sedge_log_order_kind {
     SEDGE_LOG_ORDER_RESTART = 1, /* the board with this boot count restarts */
-    SEDGE_LOG_ORDER_REBUILD = 2  /* the board that has lost its record, with this mark, gets this one */
+    SEDGE_LOG_ORDER_REBUILD = 2  /* the board that has lost its record, with this mark, gets this record */
 };
 
-/* The octets of a record at one place, of a status and of an order; and those of a command packet beside the mission's.
- */
+/* The lengths in octets of a record at one place, of a status and of an order; and the octets of a command packet in
+ * addition to the mission's. */
 #define SEDGE_LOG_RECORD_OCTETS 50U
 #define SEDGE_LOG_STATUS_OCTETS 27U
 #define SEDGE_LOG_ORDER_OCTETS 23U
 #define SEDGE_LOG_COMMAND_OVERHEAD 14U
 
-/* What a board keeps of its commands at two places of a memory that survives restarts. */
+/* What a board keeps about its commands, at two places in memory that survives restarts. */
 struct sedge_log_record {
     uint64_t known;   /* a bit for each of the 64 numbers up to last, the lowest for last: 1 if it is known that the
                        * command was executed, whole */
     uint32_t boot;    /* how often the board has started */
     uint32_t last;    /* the number of the last command that was executed or passed over. Numbers begin at 1 */
-    uint32_t history; /* the running check of all commands that were taken since the record was new or was brought */
+    uint32_t history; /* the running check of all commands that were taken since the record was new or was brought by
+                       * an order */
     uint8_t begun;    /* whether the next command is begun, 0 or 1 */
 };
 
-/* The state of a board's commands: begin it with sedge_log_start. One rule: the program does what sedge_log_next
- * returns, whole, and calls sedge_log_done, before it calls sedge_log_next again. So a program is
+/* The state of a board's commands: begin it with sedge_log_start. One rule applies: the program completes the action
+ * that sedge_log_next returns, and calls sedge_log_done, before it calls sedge_log_next again. So a program looks like
+ * this:
  *
  *     sedge_log_start(&log, first, 50, second, 50, mark); what both places have, and a mark of this start
  *     for (;;) {
@@ -822,43 +829,43 @@ struct sedge_log {
     uint8_t stage;                /* the stage, 1 to 8 */
 };
 
-/* Starts with the octets at the two places of the memory that survives restarts, 50 each. A place whose octets are not
- * 50, or do not spell a record, has none. Give another mark at each start, from a clock or at random: if neither place
- * has a record, it is the mark of this loss. */
+/* Starts with the octets at the two places of the memory that survives restarts, 50 each. A place with another number
+ * of octets, or with octets that do not form a valid record, has no record. Pass another mark at each start, from a
+ * clock or at random: if neither place has a record, it is the mark of this loss. */
 void sedge_log_start(struct sedge_log *log, const uint8_t *first, size_t first_count, const uint8_t *second,
                      size_t second_count, uint32_t mark);
 
-/* Returns what the program does next, of sedge_log_action: it does this whole, and calls sedge_log_done, before it
- * calls this again. For a write, out gets the 50 octets of the place; otherwise it stays as it is. number gets the
- * number of the command to be executed, or 0 for any other action. Or returns the first of SEDGE_WRONG_COUNT, if the
- * room is not 50 octets, and SEDGE_DAMAGED, with nothing written. */
+/* Returns the program's next action, of sedge_log_action. The program completes the action and calls sedge_log_done
+ * before it calls this again. For a write, out receives the 50 octets of the place; otherwise it does not change.
+ * number receives the number of the command to be executed, or 0 for any other action. Or returns the first of
+ * SEDGE_WRONG_COUNT, if the buffer is not 50 octets long, and SEDGE_DAMAGED, with nothing written. */
 SEDGE_CHECK uint8_t sedge_log_next(const struct sedge_log *log, uint8_t *out, size_t room, uint32_t *number);
 
-/* The action that sedge_log_next returned, with its number, was done whole. Returns 0; or it changes nothing and
- * returns the first of SEDGE_DAMAGED and SEDGE_ABSENT, if the action or its number is not what sedge_log_next
+/* Records that the action that sedge_log_next returned, with its number, is complete. Returns 0; or it changes nothing
+ * and returns the first of SEDGE_DAMAGED and SEDGE_ABSENT, if the action or its number is not what sedge_log_next
  * returns. */
 SEDGE_CHECK uint8_t sedge_log_done(struct sedge_log *log, uint8_t action, uint32_t number);
 
 /* Takes the octets of a packet that arrived if it is the next command, and writes where the mission's octets are in
- * them: keep these until the command was executed, after sedge_log_next has returned SEDGE_LOG_EXECUTE with its number.
+ * them. Keep these until the command was executed, after sedge_log_next has returned SEDGE_LOG_EXECUTE with its number.
  * Returns 0; or it changes and writes nothing, the packet is dropped, and it returns SEDGE_DAMAGED or the first of 1 to
  * 7 of sedge_log_fault: 1 Layout, then 2 Check, then 3 Starting, 4 Busy or 5 Lost, then 6 Behind or 7 Ahead. */
 SEDGE_CHECK uint8_t sedge_log_offer(struct sedge_log *log, const uint8_t *octets, size_t count,
                                     struct sedge_part *content);
 
-/* Takes the octets of an order that arrived: the next action is then SEDGE_LOG_RESTART; or the board that has lost its
- * record continues with the one that the order brings, if the order has the mark of this loss. Returns 0; or it changes
- * nothing, the packet is dropped, and it returns SEDGE_DAMAGED, or the first of 1 to 5 of sedge_log_fault, or 8 to 10
- * of sedge_log_fault: 1 Layout, then 2 Check; of a restart 3 Starting, 4 Busy or 5 Lost, then 8 OtherBoot; of a record
- * 9 NotLost, then 10 OtherMark. */
+/* Takes the octets of an order that arrived: the next action is then SEDGE_LOG_RESTART; or a board that has lost its
+ * record continues with the record that the order brings, if the order has the mark of this loss. Returns 0; or it
+ * changes nothing, the packet is dropped, and it returns SEDGE_DAMAGED, or the first of 1 to 5 of sedge_log_fault, or 8
+ * to 10 of sedge_log_fault: 1 Layout, then 2 Check; of a restart 3 Starting, 4 Busy or 5 Lost, then 8 OtherBoot; of a
+ * record 9 NotLost, then 10 OtherMark. */
 SEDGE_CHECK uint8_t sedge_log_obey(struct sedge_log *log, const uint8_t *octets, size_t count);
 
-/* Writes the status for telemetry, 27 octets, with how many commands wait on board to be offered, at most 255. Returns
- * 0, or the first of SEDGE_WRONG_COUNT, if the room is not 27 octets, and SEDGE_DAMAGED. */
+/* Writes the status for telemetry, 27 octets, with the number of commands that wait on board to be offered, at most
+ * 255. Returns 0, or the first of SEDGE_WRONG_COUNT, if the buffer is not 27 octets long, and SEDGE_DAMAGED. */
 SEDGE_CHECK uint8_t sedge_log_status(const struct sedge_log *log, size_t waiting, uint8_t *out, size_t room);
 
 /* Writes the record of a new board, the 50 octets that both places have before the board starts for the first time.
- * Returns 0, or SEDGE_WRONG_COUNT if the room is not 50 octets. */
+ * Returns 0, or SEDGE_WRONG_COUNT if the buffer is not 50 octets long. */
 SEDGE_CHECK uint8_t sedge_log_new_record(uint8_t *out, size_t room);
 
 /* What a status states, on the ground. */
@@ -880,7 +887,7 @@ SEDGE_CHECK uint8_t sedge_log_status_decode(const uint8_t *octets, size_t count,
 SEDGE_CHECK uint8_t sedge_log_command_encode(uint16_t apid, uint16_t count, uint32_t number, const uint8_t *content,
                                              size_t content_count, uint8_t *out, size_t room, size_t *total);
 
-/* An order to the board itself. It goes up by bypass (Type-BD). */
+/* An order to the board itself. It is sent by bypass (Type-BD). */
 struct sedge_log_order {
     uint32_t boot; /* the boot count: of the board that restarts, or of the record */
     uint32_t last; /* the last number of the record; 0 for a restart */
@@ -889,16 +896,16 @@ struct sedge_log_order {
 };
 
 /* Writes an order as a packet with this APID and sequence count to the beginning of out, and its length, 23 octets, to
- * total. Returns 0, or the first of SEDGE_DAMAGED (the kind is out of its enum, or a restart has a last number or a
- * mark), SEDGE_LOG_FIELD_RANGE (the APID is above 2,047 or the count above 16,383) and SEDGE_LOG_ROOM. */
+ * total. Returns 0, or the first of SEDGE_DAMAGED (the kind is not in its enumeration, or a restart has a last number
+ * or a mark), SEDGE_LOG_FIELD_RANGE (the APID is above 2,047 or the count above 16,383) and SEDGE_LOG_ROOM. */
 SEDGE_CHECK uint8_t sedge_log_order_encode(const struct sedge_log_order *order, uint16_t apid, uint16_t count,
                                            uint8_t *out, size_t room, size_t *total);
 
-/* Returns the history after one command packet more: CRC-32 continued over the packet's check, its last four octets.
+/* Returns the history after one more command packet: CRC-32 continued over the packet's check, its last four octets.
  * The history of no packets is 0. A ground that computes it for the packets that it sends compares it with a status. */
 uint32_t sedge_log_history_after(uint32_t history, const uint8_t *packet, size_t count);
 
-/* ---- Names, as tctool writes them; "?" for a number out of the enum. ---- */
+/* ---- Names, as tctool writes them; "?" for a number that is not in the enumeration. ---- */
 
 struct sedge_text sedge_clcw_fault_name(uint8_t fault);   /* the name of a sedge_clcw_fault */
 struct sedge_text sedge_cop_fault_name(uint8_t fault);    /* the name of a sedge_cop_fault */
@@ -911,16 +918,16 @@ struct sedge_text sedge_map_fault_name(uint8_t fault);    /* the name of a sedge
 struct sedge_text sedge_dropped_name(uint8_t cause);      /* the name of a sedge_dropped */
 struct sedge_text sedge_log_fault_name(uint8_t fault);    /* the name of a sedge_log_fault */
 
-/* ---- What an alert says. ---- */
+/* ---- What an alert means. ---- */
 
-/* Whether a sedge_alert says that a condition of the link is broken: true for SEDGE_ALERT_LOCKOUT, SEDGE_ALERT_NNR,
- * SEDGE_ALERT_CLCW and SEDGE_ALERT_SYNCH. In a confirmed session that was begun by check, Unlock or Set V(R) none of
- * these comes while the conditions hold: there was a restart on board, a link that reorders or repeats frames, or a
- * second station. Nothing is known of what is on board then: begin anew, as after a reset. False for the others, after
- * which the next session begins where this one got to, and for a number that is no alert. */
+/* Returns whether a sedge_alert shows a broken condition of the link: true for SEDGE_ALERT_LOCKOUT, SEDGE_ALERT_NNR,
+ * SEDGE_ALERT_CLCW and SEDGE_ALERT_SYNCH. In a confirmed session that was begun by check, Unlock or Set V(R), none of
+ * these alerts occurs while the conditions hold: there was a restart on board, a link that reorders or repeats frames,
+ * or a second station. Nothing is then known of what is on board: begin again, as after a reset. Returns false for the
+ * other alerts, after which the next session begins where this one got to, and for a number that is not an alert. */
 bool sedge_alert_shows_broken_condition(uint8_t alert);
 
-/* What to look for after a sedge_alert, and the way on, in words for an operator; "?" for a number that is none. */
+/* What to look for after a sedge_alert, and how to recover, in words for an operator; "?" for any other number. */
 struct sedge_advice sedge_alert_advice(uint8_t alert);
 
 /* ---- The numbers of the enumerations, as constants of an unsigned type. ---- */
@@ -1068,7 +1075,7 @@ struct sedge_advice sedge_alert_advice(uint8_t alert);
 #define SEDGE_LOG_ORDER_REBUILD ((uint8_t)2)
 #endif
 
-/* ---- Names that go after 0.3: each call has another name now. ---- */
+/* ---- Names that will be removed after 0.3: each call has another name now. ---- */
 
 #define sedge_farm_report sedge_farm_control_word
 #define sedge_fop_report sedge_fop_clcw

@@ -1,5 +1,5 @@
-/* The text of each fault that the calls of sedgechisel.h and sedgechisel_nodes.h return, for a program that shows it:
- * its number, its name, and what it means. The packages for Python, Rust and JavaScript have the same texts.
+/* The text of each fault that the calls of sedgechisel.h and sedgechisel_nodes.h return, for a program to show: its
+ * number, its name, and what it means. The packages for Python, Rust and JavaScript have the same texts.
  *
  *     uint8_t fault = sedge_tc_decode(octets, count, true, &frame, &data);
  *     if (fault != SEDGE_OK) puts(sedge_tc_fault_text(fault));
@@ -7,12 +7,13 @@
  * prints, for example, "6 Check: the last two octets are not the check of those before them (4.1.4)".
  *
  * There is a call for each enumeration of faults, with its name, and one for the parameter that sedge_config_fault
- * returns. A number that the enumeration does not have is one that all kinds of calls share, or its text is "?": a call
- * of the core returns 253 to 255 of sedge_status, which sedge_status_text and the calls for its faults know, and a call
- * of a node returns 252 to 255 of sedge_node_status, which sedge_link_fault_text knows.
+ * returns. For a number that is not in the enumeration, the text is that of a number that all kinds of calls share, or
+ * "?". A call of the core may also return 253 to 255, the numbers of sedge_status; sedge_status_text and the calls for
+ * the core's faults return their texts. A call of a node may also return 252 to 255, numbers of sedge_node_status;
+ * sedge_link_fault_text returns their texts.
  *
- * The texts are constants, and a program has only those of the calls that it makes. tools/bindings generates them from
- * the notes in the two headers. For C99 and later, and for C++. */
+ * The texts are constants, and a program contains only those of the calls that it makes. tools/bindings generates them
+ * from the notes in the two headers. For C99 and later, and for C++. */
 #ifndef SEDGECHISEL_FAULTS_H
 #define SEDGECHISEL_FAULTS_H
 
@@ -21,9 +22,9 @@
 /* The text of a sedge_status, which all kinds of calls share. */
 static inline const char *sedge_status_text(uint8_t number) {
     switch (number) {
-    case 253: return "253 Absent: there are not that many segments, or a report says nothing of the units";
+    case 253: return "253 Absent: there are fewer segments, or a CLCW states nothing about the units";
     case 254: return "254 WrongCount: not the number of octets that the call needs";
-    case 255: return "255 Damaged: a struct has a value that no sender, receiver or MAP has, or one out of its enum";
+    case 255: return "255 Damaged: a struct has a value that no sender, receiver or MAP has, or one outside its enum";
     default: return "?";
     }
 }
@@ -48,7 +49,7 @@ static inline const char *sedge_cop_fault_text(uint8_t number) {
     case 3: return "3 Limit: the transmission limit is 0";
     case 4: return "4 Timer: the timer's value is 0";
     case 6: return "6 NotOpen: the sender is in its state S6";
-    case 7: return "7 Busy: a unit waits already";
+    case 7: return "7 Busy: a unit is already waiting";
     case 8: return "8 WrongState: the directive is not allowed in the sender's state";
     default: return sedge_status_text(number);
     }
@@ -64,10 +65,10 @@ static inline const char *sedge_tc_fault_text(uint8_t number) {
     case 5: return "5 Length: the declared total is not the number of octets, or too small (4.1.2.7)";
     case 6: return "6 Check: the last two octets are not the check of those before them (4.1.4)";
     case 7: return "7 BypassNumber: a frame with the bypass flag has a number other than 0 (4.1.2.8)";
-    case 8: return "8 EmptyData: no octet in the data field, or a segment header alone";
+    case 8: return "8 EmptyData: no octet in the data field, or only a segment header";
     case 9: return "9 Command: the data of a control frame are neither Unlock nor Set V(R) (4.1.3.3)";
     case 10: return "10 Room: there is too little room for the frame";
-    case 11: return "11 FieldRange: a field out of its range, no data, or more than 1,024 octets";
+    case 11: return "11 FieldRange: a field out of range, no data, or more than 1,024 octets";
     default: return sedge_status_text(number);
     }
 }
@@ -79,8 +80,8 @@ static inline const char *sedge_packet_fault_text(uint8_t number) {
     case 2: return "2 Version: the version number is not 000 (4.1.3.2)";
     case 3: return "3 IdleWithSecondary: an idle packet with a secondary header (4.1.3.3.3)";
     case 4: return "4 Room: there is too little room for the packet";
-    case 5: return "5 FieldRange: a field out of its range, no data or more than 65,536 octets of them, or an idle "
-                   "packet with a secondary header";
+    case 5: return "5 FieldRange: a field out of range, no data or more than 65,536 octets of them, or an idle packet "
+                   "with a secondary header";
     default: return sedge_status_text(number);
     }
 }
@@ -94,11 +95,11 @@ static inline const char *sedge_tm_fault_text(uint8_t number) {
     case 4: return "4 Status: a flag of the data field status is 1, or its identifier is not 11 (4.1.2.7)";
     case 5: return "5 Pointer: a first header pointer at or after the data field's end (4.1.2.7.6)";
     case 6: return "6 NoOcf: the frame declares no operational control field (4.1.2.4)";
-    case 7: return "7 Memory: there is too little memory for what would be kept";
+    case 7: return "7 Memory: out of memory for what would be kept";
     case 8: return "8 NotAPacket: not exactly one packet, or an idle packet";
     case 9: return "9 Room: there is too little room for the frame";
-    case 10: return "10 FieldRange: a field out of its range, a pointer after the data, not 4 to 2,036 octets of "
-                    "data, or a length outside 16 to 2,048";
+    case 10: return "10 FieldRange: a field out of range, a pointer after the data, not 4 to 2,036 octets of data, or "
+                    "a length outside 16 to 2,048";
     default: return sedge_status_text(number);
     }
 }
@@ -115,12 +116,12 @@ static inline const char *sedge_map_fault_text(uint8_t number) {
 /* Why octets of a board's commands are refused, or the board drops a command or an order: the text of a sedge_log_fault. */
 static inline const char *sedge_log_fault_text(uint8_t number) {
     switch (number) {
-    case 1: return "1 Layout: not exactly one packet of this layout, or not as many octets as the layout has";
-    case 2: return "2 Check: the check does not hold, or a field has a value that no layout gives it";
+    case 1: return "1 Layout: not exactly one packet of this layout, or not the layout's number of octets";
+    case 2: return "2 Check: the check does not hold, or a field has a value that the layout does not allow";
     case 3: return "3 Starting: the board has started, and a copy of its record is being repaired";
     case 4: return "4 Busy: the record is being written, a command is executed, or a restart is due";
     case 5: return "5 Lost: the board has lost its record";
-    case 6: return "6 Behind: the command's number is that of one that was executed or passed over";
+    case 6: return "6 Behind: a command with this number was executed or passed over";
     case 7: return "7 Ahead: the command's number is above the next one";
     case 8: return "8 OtherBoot: the order is for another boot count";
     case 9: return "9 NotLost: the order brings a record, and the board has its own";
@@ -138,13 +139,13 @@ static inline const char *sedge_link_fault_text(uint8_t number) {
     case 2: return "2 ClosedMap: the MAP is not open";
     case 3: return "3 NotCommand: the octets are not command packets, or not as many as one call takes";
     case 4: return "4 TooLong: a packet has more octets than it may have";
-    case 5: return "5 QueueFull: as many units as may wait are waiting";
-    case 6: return "6 Memory: there was no memory";
+    case 5: return "5 QueueFull: as many units wait as may wait";
+    case 6: return "6 Memory: out of memory";
     case 10: return "10 NotKnown: nothing is known of how far the session has come";
-    case 252: return "252 Room: the room is too short; nothing was taken out";
-    case 253: return "253 Absent: there is no record at this place, or a report says nothing of the segments";
-    case 254: return "254 OutOfRange: a parameter is out of its range";
-    case 255: return "255 None: the handle holds no node; or a directive or an event is none";
+    case 252: return "252 Room: the output is too short; nothing was taken";
+    case 253: return "253 Absent: there is no record at this index, or a CLCW states nothing about the segments";
+    case 254: return "254 OutOfRange: a parameter is out of range";
+    case 255: return "255 None: the handle holds no node, or there is no such directive or event";
     default: return "?";
     }
 }
@@ -152,8 +153,8 @@ static inline const char *sedge_link_fault_text(uint8_t number) {
 /* Why an event does not happen on a simulated link: the text of a sedge_sim_fault. */
 static inline const char *sedge_sim_fault_text(uint8_t number) {
     switch (number) {
-    case 6: return "6 Memory: there was no memory";
-    case 7: return "7 NothingInTransit: no frame is on its way in this direction";
+    case 6: return "6 Memory: out of memory";
+    case 7: return "7 NothingInTransit: no frame is in transit in this direction";
     case 8: return "8 NotDetectable: the receiver's decoder would accept the octets of the damaged frame";
     default: return number < 252 ? "?" : sedge_link_fault_text(number);
     }

@@ -858,7 +858,7 @@ static uint32_t sedge_sim_entry_length_at(uint64_t sim, uint32_t record, uint32_
 static uint32_t sedge_ground_peek_at(uint64_t ground, uint64_t out, uint64_t room, uint64_t count);
 static uint32_t sedge_ground_pull_at(uint64_t ground, uint64_t out, uint64_t room, uint64_t count);
 
-/* nodes::config::Config::fault, crates/nodes/src/config.rt:79 */
+/* nodes::config::Config::fault, crates/nodes/src/config.rt:80 */
 static void nodes_config_Config_fault(uint64_t p0, uint64_t p1)
 {
     uint32_t v19, v21, v23;
@@ -1276,7 +1276,7 @@ l8:;
     return ~v111 & 1;
 }
 
-/* nodes::ground_node::Ground::of, crates/nodes/src/ground_node.rt:80 */
+/* nodes::ground_node::Ground::of, crates/nodes/src/ground_node.rt:81 */
 static void nodes_ground_node_Ground_of(uint64_t p0, uint64_t p1)
 {
     unsigned char frame_octets[160 + 15];
@@ -1605,7 +1605,7 @@ static void sedgechisel_nodes_nodes_ground_node_Ground_Destruct_drop(uint64_t p0
     return;
 }
 
-/* nodes::spacecraft::Spacecraft::restarted, crates/nodes/src/spacecraft.rt:110 */
+/* nodes::spacecraft::Spacecraft::restarted, crates/nodes/src/spacecraft.rt:112 */
 static void nodes_spacecraft_Spacecraft_restarted(uint64_t p0, uint64_t p1, uint32_t p2)
 {
     unsigned char frame_octets[128 + 15];
@@ -2098,7 +2098,7 @@ static void nodes_ground_node_Ground_advance(uint64_t p0)
     return;
 }
 
-/* nodes::ground_node::Ground::refill, crates/nodes/src/ground_node.rt:272 */
+/* nodes::ground_node::Ground::refill, crates/nodes/src/ground_node.rt:273 */
 static void nodes_ground_node_Ground_refill(uint64_t p0)
 {
     uint64_t v1, v2, v3, v4, v5, v6, v7, v8, v9, v10, v11, v12, v13, v14, v15, v16, v17, v18;
@@ -2170,7 +2170,7 @@ static void nodes_ground_node_Ground_refill(uint64_t p0)
     return;
 }
 
-/* nodes::ground_node::Ground::bypass, crates/nodes/src/ground_node/submit.rt:154 */
+/* nodes::ground_node::Ground::bypass, crates/nodes/src/ground_node/submit.rt:153 */
 static void nodes_ground_node_Ground_bypass(uint64_t p0, uint64_t p1, uint32_t p2, uint64_t p3, uint64_t p4)
 {
     unsigned char frame_octets[16 + 15];
@@ -2605,7 +2605,7 @@ static uint32_t std_alloc_vec_Vec_grow_amortized_de4148db516017ec(uint64_t p0)
     return 1;
 }
 
-/* nodes::ground_node::Ground::report, crates/nodes/src/ground_node/telemetry.rt:76 */
+/* nodes::ground_node::Ground::report, crates/nodes/src/ground_node/telemetry.rt:75 */
 static void nodes_ground_node_Ground_report(uint64_t p0, uint64_t p1, uint64_t p2)
 {
     unsigned char frame_octets[16 + 15];
@@ -3018,7 +3018,7 @@ static void cop1_fop_trim_trim_09dedc624c4eb86b(uint64_t p0, uint64_t p1, uint64
     return;
 }
 
-/* nodes::ground_node::Ground::directive, crates/nodes/src/ground_node.rt:213 */
+/* nodes::ground_node::Ground::directive, crates/nodes/src/ground_node.rt:215 */
 static void nodes_ground_node_Ground_directive(uint64_t p0, uint64_t p1, uint64_t p2)
 {
     uint32_t v4, v5, v2, v6, v7, v8, v12, v14;
@@ -3232,7 +3232,7 @@ l1:;
     return;
 }
 
-/* nodes::ground_node::Ground::resume, crates/nodes/src/ground_node/fates.rt:70 */
+/* nodes::ground_node::Ground::resume, crates/nodes/src/ground_node/fates.rt:73 */
 static void nodes_ground_node_Ground_resume(uint64_t p0, uint64_t p1, uint32_t p2)
 {
     unsigned char frame_octets[16 + 15];
@@ -3303,7 +3303,7 @@ l1:;
     return;
 }
 
-/* nodes::ground_node::Ground::prepare, crates/nodes/src/ground_node/submit.rt:46 */
+/* nodes::ground_node::Ground::prepare, crates/nodes/src/ground_node/submit.rt:45 */
 static void nodes_ground_node_Ground_prepare(uint64_t p0, uint64_t p1, uint32_t p2, uint64_t p3, uint64_t p4)
 {
     unsigned char frame_octets[96 + 15];
@@ -3822,7 +3822,7 @@ static uint32_t std_alloc_vec_Vec_grow_amortized_10d150b3d444a65f(uint64_t p0)
     return 1;
 }
 
-/* nodes::ground_node::Ground::commit, crates/nodes/src/ground_node/submit.rt:79 */
+/* nodes::ground_node::Ground::commit, crates/nodes/src/ground_node/submit.rt:78 */
 static void nodes_ground_node_Ground_commit(uint64_t p0, uint64_t p1)
 {
     uint32_t v3, v12, t1, v38;
@@ -4235,7 +4235,7 @@ static uint32_t std_alloc_vec_Vec_grow_amortized_ab161963403435e1(uint64_t p0, u
     return 1;
 }
 
-/* nodes::ground_node::Ground::telemetry, crates/nodes/src/ground_node/telemetry.rt:29 */
+/* nodes::ground_node::Ground::telemetry, crates/nodes/src/ground_node/telemetry.rt:28 */
 static void nodes_ground_node_Ground_telemetry(uint64_t p0, uint64_t p1, uint64_t p2, uint64_t p3)
 {
     unsigned char frame_octets[128 + 15];
@@ -5043,7 +5043,7 @@ static uint32_t octets_frame_check_check(uint64_t p0, uint64_t p1)
 }
 #endif
 
-/* nodes::ground_node::Ground::tick, crates/nodes/src/ground_node.rt:232 */
+/* nodes::ground_node::Ground::tick, crates/nodes/src/ground_node.rt:233 */
 static void nodes_ground_node_Ground_tick(uint64_t p0, uint64_t p1)
 {
     uint32_t v2, v3, v6, v5, v8;
@@ -8643,7 +8643,7 @@ static uint32_t std_alloc_vec_Vec_grow_amortized_1598ebf9113514c4(uint64_t p0, u
     return 1;
 }
 
-/* map_service::packets::fault_of_alone, crates/map_service/src/packets.rt:76 */
+/* map_service::packets::fault_of_alone, crates/map_service/src/packets.rt:77 */
 static void map_service_packets_fault_of_alone(uint64_t p0, uint64_t p1, uint64_t p2, uint64_t p3)
 {
     uint32_t v5, v6, v8, v7, v3, v9, v10, v11, v13, v14, v16, v17, v18;
@@ -8826,7 +8826,7 @@ static void smallvec_small_vec_SmallVec_push_reserved_ed127ccbaaf726c4(uint64_t 
     return;
 }
 
-/* tm_link::builder::TmBuilder::build_in, crates/tm_link/src/builder.rt:155 */
+/* tm_link::builder::TmBuilder::build_in, crates/tm_link/src/builder.rt:158 */
 static uint64_t tm_link_builder_TmBuilder_build_in(uint64_t p0, uint32_t p1, uint64_t p2)
 {
     uint32_t v6, v7, v8, v9, v14, v2, v26, v48, v50, v51, v53, v55, v67, v74;
@@ -9057,7 +9057,7 @@ static uint32_t std_alloc_vec_Vec_grow_amortized_49bbd27f022ae39a(uint64_t p0, u
     return 1;
 }
 
-/* nodes::spacecraft::Spacecraft::telemetry, crates/nodes/src/spacecraft.rt:235 */
+/* nodes::spacecraft::Spacecraft::telemetry, crates/nodes/src/spacecraft.rt:237 */
 static void nodes_spacecraft_Spacecraft_telemetry(uint64_t p0, uint64_t p1, uint64_t p2, uint64_t p3)
 {
     uint32_t v4, v5, v6, v2, t1, v18, t2, v20, v31, t3, v45, v46;
@@ -9529,7 +9529,7 @@ static uint32_t std_alloc_vec_Vec_grow_amortized_ee377714b7165a56(uint64_t p0)
     return 1;
 }
 
-/* sedgechisel_nodes::spacecraft_take::taken, crates/sedgechisel_nodes/src/spacecraft_take.rt:79 */
+/* sedgechisel_nodes::spacecraft_take::taken, crates/sedgechisel_nodes/src/spacecraft_take.rt:80 */
 static uint32_t sedgechisel_nodes_spacecraft_take_taken(uint64_t p0, uint32_t p1, uint64_t p2, uint64_t p3, uint64_t
     p4, uint64_t p5)
 {
@@ -9640,7 +9640,7 @@ l3:;
     return 0;
 }
 
-/* sedge_config_default, crates/sedgechisel_nodes/src/parameters.rt:40 */
+/* sedge_config_default, crates/sedgechisel_nodes/src/parameters.rt:41 */
 static void sedge_config_default_at(uint64_t config)
 {
     put64(config + 64 /* blocking */, 0);
@@ -9726,7 +9726,7 @@ static uint32_t sedge_ground_open_at(uint64_t ground, uint64_t config)
     return SEDGE_NODE_MEMORY;
 }
 
-/* sedge_ground_open_kept, crates/sedgechisel_nodes/src/ground_kept.rt:89 */
+/* sedge_ground_open_kept, crates/sedgechisel_nodes/src/ground_kept.rt:90 */
 static uint32_t sedge_ground_open_kept_at(uint64_t ground, uint64_t config, uint64_t kept)
 {
     unsigned char frame_octets[800 + 15];
@@ -11150,7 +11150,7 @@ static uint32_t sedge_ground_advance_at(uint64_t ground)
     return SEDGE_NODE_OK;
 }
 
-/* sedge_ground_bypass, crates/sedgechisel_nodes/src/ground_telemetry.rt:239 */
+/* sedge_ground_bypass, crates/sedgechisel_nodes/src/ground_telemetry.rt:240 */
 static uint32_t sedge_ground_bypass_at(uint64_t ground, uint32_t map, uint64_t octets, uint64_t count)
 {
     unsigned char frame_octets[16 + 15];
@@ -11428,7 +11428,7 @@ static uint32_t sedge_ground_next_telemetry_at(uint64_t ground, uint64_t count)
     return SEDGE_NODE_OK;
 }
 
-/* sedge_ground_read, crates/sedgechisel_nodes/src/readings.rt:79 */
+/* sedge_ground_read, crates/sedgechisel_nodes/src/readings.rt:81 */
 static uint32_t sedge_ground_read_at(uint64_t ground, uint64_t read)
 {
     uint32_t new_nn, new_vs, v15, v16, v17, v18, new_count;
@@ -11711,7 +11711,7 @@ static uint32_t sedge_ground_telemetry_at(uint64_t ground, uint64_t octets, uint
     return v6;
 }
 
-/* sedge_ground_tick, crates/sedgechisel_nodes/src/ground_telemetry.rt:218 */
+/* sedge_ground_tick, crates/sedgechisel_nodes/src/ground_telemetry.rt:219 */
 static uint32_t sedge_ground_tick_at(uint64_t ground)
 {
     unsigned char frame_octets[16 + 15];
@@ -11773,7 +11773,7 @@ static uint32_t sedge_sim_count_at(uint64_t sim, uint32_t record, uint32_t map, 
     return SEDGE_NODE_OK;
 }
 
-/* sedge_sim_entry, crates/sedgechisel_nodes/src/sim/records.rt:106 */
+/* sedge_sim_entry, crates/sedgechisel_nodes/src/sim/records.rt:107 */
 static uint32_t sedge_sim_entry_at(uint64_t sim, uint32_t record, uint32_t map, uint64_t k, uint64_t out, uint64_t
     room, uint64_t count)
 {
@@ -11939,7 +11939,7 @@ l2:;
     return SEDGE_NODE_OK;
 }
 
-/* sedge_sim_octets, crates/sedgechisel_nodes/src/sim/readings.rt:109 */
+/* sedge_sim_octets, crates/sedgechisel_nodes/src/sim/readings.rt:110 */
 static uint32_t sedge_sim_octets_at(uint64_t sim, uint64_t out, uint64_t room, uint64_t count)
 {
     uint64_t link, v5, v6, v7, v8, v9, v10, v11, v2, v12, v3, v13;
@@ -12058,7 +12058,7 @@ l2:;
     return SEDGE_NODE_OK;
 }
 
-/* sedge_sim_spacecraft_read, crates/sedgechisel_nodes/src/sim/readings.rt:89 */
+/* sedge_sim_spacecraft_read, crates/sedgechisel_nodes/src/sim/readings.rt:90 */
 static uint32_t sedge_sim_spacecraft_read_at(uint64_t sim, uint64_t read)
 {
     uint32_t v3, v4, v5, new_mc_count, new_value, new_farm_b, new_vcid;
@@ -12089,7 +12089,7 @@ static uint32_t sedge_sim_spacecraft_read_at(uint64_t sim, uint64_t read)
     return SEDGE_NODE_OK;
 }
 
-/* sedge_sim_step, crates/sedgechisel_nodes/src/sim/events.rt:74 */
+/* sedge_sim_step, crates/sedgechisel_nodes/src/sim/events.rt:77 */
 static uint32_t sedge_sim_step_at(uint64_t sim, uint64_t event, uint64_t reply)
 {
     unsigned char frame_octets[96 + 15];
@@ -12824,7 +12824,7 @@ l36:;
     return v48;
 }
 
-/* sedge_sim_submission, crates/sedgechisel_nodes/src/sim/submissions.rt:63 */
+/* sedge_sim_submission, crates/sedgechisel_nodes/src/sim/submissions.rt:64 */
 static uint32_t sedge_sim_submission_at(uint64_t sim, uint64_t k, uint64_t map, uint64_t out, uint64_t room, uint64_t
     count)
 {
@@ -12880,7 +12880,7 @@ l4:;
     return SEDGE_NODE_OK;
 }
 
-/* sedge_sim_submission_length, crates/sedgechisel_nodes/src/sim/submissions.rt:37 */
+/* sedge_sim_submission_length, crates/sedgechisel_nodes/src/sim/submissions.rt:38 */
 static uint32_t sedge_sim_submission_length_at(uint64_t sim, uint64_t k, uint64_t map, uint64_t count)
 {
     uint32_t v5;
@@ -12900,7 +12900,7 @@ static uint32_t sedge_sim_submission_length_at(uint64_t sim, uint64_t k, uint64_
     return v5;
 }
 
-/* sedge_sim_submissions, crates/sedgechisel_nodes/src/sim/submissions.rt:16 */
+/* sedge_sim_submissions, crates/sedgechisel_nodes/src/sim/submissions.rt:17 */
 static uint32_t sedge_sim_submissions_at(uint64_t sim, uint64_t count)
 {
     uint64_t link;
@@ -12947,7 +12947,7 @@ static uint32_t sedge_spacecraft_next_at(uint64_t spacecraft, uint64_t map, uint
     return SEDGE_NODE_OK;
 }
 
-/* sedge_spacecraft_next_bypass, crates/sedgechisel_nodes/src/spacecraft_take.rt:68 */
+/* sedge_spacecraft_next_bypass, crates/sedgechisel_nodes/src/spacecraft_take.rt:69 */
 static uint32_t sedge_spacecraft_next_bypass_at(uint64_t spacecraft, uint64_t map, uint64_t count)
 {
     uint64_t node, v4, v2, v5, v6;
@@ -12967,7 +12967,7 @@ static uint32_t sedge_spacecraft_next_bypass_at(uint64_t spacecraft, uint64_t ma
     return SEDGE_NODE_OK;
 }
 
-/* sedge_spacecraft_read, crates/sedgechisel_nodes/src/readings.rt:144 */
+/* sedge_spacecraft_read, crates/sedgechisel_nodes/src/readings.rt:147 */
 static uint32_t sedge_spacecraft_read_at(uint64_t spacecraft, uint64_t read)
 {
     uint32_t v3, v4, v5, new_mc_count, new_value, new_farm_b, new_vcid;
@@ -13899,7 +13899,7 @@ static uint32_t sedge_spacecraft_telemetry_at(uint64_t spacecraft, uint64_t pack
     return v2;
 }
 
-/* sedge_spacecraft_telemetry_frame, crates/sedgechisel_nodes/src/spacecraft_take.rt:154 */
+/* sedge_spacecraft_telemetry_frame, crates/sedgechisel_nodes/src/spacecraft_take.rt:155 */
 static uint32_t sedge_spacecraft_telemetry_frame_at(uint64_t spacecraft, uint64_t out, uint64_t room, uint64_t count)
 {
     uint32_t v5, v2, v6, t1;
@@ -13923,14 +13923,14 @@ static uint32_t sedge_spacecraft_telemetry_frame_at(uint64_t spacecraft, uint64_
     return v5;
 }
 
-/* sedge_spacecraft_take, crates/sedgechisel_nodes/src/spacecraft_take.rt:103 */
+/* sedge_spacecraft_take, crates/sedgechisel_nodes/src/spacecraft_take.rt:104 */
 static uint32_t sedge_spacecraft_take_at(uint64_t spacecraft, uint64_t map, uint64_t out, uint64_t room, uint64_t
     count)
 {
     return sedgechisel_nodes_spacecraft_take_taken(spacecraft, 0, map, some(out), room, count);
 }
 
-/* sedge_spacecraft_take_bypass, crates/sedgechisel_nodes/src/spacecraft_take.rt:120 */
+/* sedge_spacecraft_take_bypass, crates/sedgechisel_nodes/src/spacecraft_take.rt:121 */
 static uint32_t sedge_spacecraft_take_bypass_at(uint64_t spacecraft, uint64_t map, uint64_t out, uint64_t room,
     uint64_t count)
 {
@@ -14006,7 +14006,7 @@ l3:;
     return SEDGE_NODE_OK;
 }
 
-/* sedge_ground_accepted_beyond, crates/sedgechisel_nodes/src/readings.rt:162 */
+/* sedge_ground_accepted_beyond, crates/sedgechisel_nodes/src/readings.rt:166 */
 static uint32_t sedge_ground_accepted_beyond_at(uint64_t ground, uint32_t value, uint64_t accepted)
 {
     uint32_t v4, v5, v6;
@@ -14029,7 +14029,7 @@ static uint32_t sedge_ground_accepted_beyond_at(uint64_t ground, uint32_t value,
     return SEDGE_NODE_OK;
 }
 
-/* sedge_ground_clcw_in, crates/sedgechisel_nodes/src/ground_telemetry.rt:199 */
+/* sedge_ground_clcw_in, crates/sedgechisel_nodes/src/ground_telemetry.rt:200 */
 static uint32_t sedge_ground_clcw_in_at(uint64_t ground, uint64_t octets, uint64_t count, uint64_t word)
 {
     unsigned char frame_octets[48 + 15];
@@ -14066,7 +14066,7 @@ static uint32_t sedge_ground_clcw_in_at(uint64_t ground, uint64_t octets, uint64
     return v2;
 }
 
-/* sedge_ground_known_on_board, crates/sedgechisel_nodes/src/readings.rt:185 */
+/* sedge_ground_known_on_board, crates/sedgechisel_nodes/src/readings.rt:189 */
 static uint32_t sedge_ground_known_on_board_at(uint64_t ground, uint32_t value, uint64_t whole)
 {
     uint32_t v7, v8, v2, v17;
@@ -14125,7 +14125,7 @@ static uint32_t sedge_ground_known_on_board_at(uint64_t ground, uint32_t value, 
     return SEDGE_NODE_OK;
 }
 
-/* sedge_sim_entry_length, crates/sedgechisel_nodes/src/sim/records.rt:84 */
+/* sedge_sim_entry_length, crates/sedgechisel_nodes/src/sim/records.rt:85 */
 static uint32_t sedge_sim_entry_length_at(uint64_t sim, uint32_t record, uint32_t map, uint64_t k, uint64_t count)
 {
     uint32_t v6;

@@ -10,7 +10,7 @@ reasons! {
     }
 }
 
-/// The check of the octets (CCSDS 232.0-B-4, 4.1.4.2).
+/// Returns the check of the octets (CCSDS 232.0-B-4, 4.1.4.2).
 ///
 /// ```
 /// assert_eq!(sedgechisel::check(b"123456789"), 0x29b1);
@@ -29,7 +29,7 @@ pub fn check_append(octets: &mut [u8]) -> Result<(), CheckFault> {
     ffi::check_append(octets).then_some(()).ok_or(CheckFault::WrongCount)
 }
 
-/// Whether the last two octets are the check of those before them; false for fewer than two octets (CCSDS
+/// Returns whether the last two octets are the check of those before them; false for fewer than two octets (CCSDS
 /// 232.0-B-4, 4.1.4.3).
 #[must_use]
 pub fn check_holds(octets: &[u8]) -> bool {

@@ -18,7 +18,7 @@ faults! {
 pub struct Clcw {
     /// The status field, 3 bits, carried and not interpreted.
     pub status: u8,
-    /// The virtual channel that is reported on, 6 bits.
+    /// The virtual channel that the CLCW reports on, 6 bits.
     pub vcid: u8,
     /// The radio frequency channel is not available (4.2.1.8).
     pub no_rf: bool,
@@ -28,7 +28,7 @@ pub struct Clcw {
     pub lockout: bool,
     /// There is no room for a further frame.
     pub wait: bool,
-    /// Frames have to be sent again, from the report value on.
+    /// Frames must be retransmitted, from the report value on.
     pub retransmit: bool,
     /// The FARM-B counter, 2 bits.
     pub farm_b: u8,
@@ -37,7 +37,7 @@ pub struct Clcw {
 }
 
 impl Clcw {
-    /// Reads four octets as a control word.
+    /// Reads four octets as a CLCW.
     ///
     /// # Errors
     ///
@@ -48,11 +48,11 @@ impl Clcw {
         Ok(Self::from_raw(word))
     }
 
-    /// The four octets of the word.
+    /// Returns the four octets of the CLCW.
     ///
     /// # Errors
     ///
-    /// Refused with 5 [`Range`](ClcwFault::Range) where a field is too large for its bits.
+    /// Refused with 5 [`Range`](ClcwFault::Range) if a field is too large for its bits.
     pub fn encode(&self) -> Result<[u8; 4], ClcwFault> {
         let mut octets = [0; 4];
         ClcwFault::judge(ffi::clcw_encode(&self.raw(), &mut octets))?;

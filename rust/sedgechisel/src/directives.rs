@@ -1,4 +1,4 @@
-//! The directives to a sender (CCSDS 232.1-B-2, 5.2.4), which `Fop`, `Ground` and `Link` have alike.
+//! The directives to a sender (CCSDS 232.1-B-2, 5.2.4), which `Fop`, `Ground` and `Link` all have.
 
 // enum sedge_directive
 pub const SEDGE_INIT_WITHOUT_CHECK: u8 = 1;
@@ -11,7 +11,7 @@ pub const SEDGE_SET_WINDOW: u8 = 7;
 pub const SEDGE_SET_LIMIT: u8 = 8;
 pub const SEDGE_SET_TIMER: u8 = 9;
 
-/// The method of each directive, where `direct` gives the sender one by its number and its value.
+/// The method of each directive. `direct` gives the sender a directive by its number and its value.
 macro_rules! directives {
     () => {
         /// The directive (232.1-B-2, 5.2.4) to initiate without CLCW check: S6 to S1.
@@ -23,7 +23,7 @@ macro_rules! directives {
             self.direct($crate::directives::SEDGE_INIT_WITHOUT_CHECK, 0)
         }
 
-        /// The directive (232.1-B-2, 5.2.4) to initiate with CLCW check: S6 to S4, until a report agrees.
+        /// The directive (232.1-B-2, 5.2.4) to initiate with CLCW check: S6 to S4, until a CLCW agrees.
         ///
         /// # Errors
         ///
@@ -51,7 +51,7 @@ macro_rules! directives {
             self.direct($crate::directives::SEDGE_INIT_SET_VR, vr.into())
         }
 
-        /// The directive (232.1-B-2, 5.2.4) to terminate: to S6 with the alert Terminated, which lets go of all units.
+        /// The directive (232.1-B-2, 5.2.4) to terminate: to S6 with the alert Terminated, which discards all units.
         ///
         /// # Errors
         ///

@@ -13,20 +13,20 @@ faults! {
         Limit = 3, "the transmission limit is 0";
         Timer = 4, "the timer's value is 0";
         NotOpen = 6, "the sender is in its state S6";
-        Busy = 7, "a unit waits already";
+        Busy = 7, "a unit is already waiting";
         WrongState = 8, "the directive is not allowed in the sender's state";
-        Damaged = 255, "a struct has a value that no sender, receiver or MAP has, or one out of its enum";
+        Damaged = 255, "a struct has a value that no sender, receiver or MAP has, or one outside its enum";
     }
 }
 
 numbers! {
     /// What the receiver does with a Type-AD frame (CCSDS 232.1-B-2, 6.1.8).
     Verdict {
-        /// The expected frame: its data is handed on, V(R) steps.
+        /// The expected frame: its data is passed on, and V(R) increases by 1.
         Accepted = 0,
-        /// In the positive window, ahead of V(R): discarded, a retransmission is asked for.
+        /// In the positive window, ahead of V(R): discarded, a retransmission is requested.
         Ahead = 1,
-        /// The expected frame, and no room for it: discarded, a retransmission is asked for.
+        /// The expected frame, but no room for it: discarded, a retransmission is requested.
         NoBuffer = 2,
         /// In the negative window: a repetition, discarded.
         Behind = 3,
@@ -38,7 +38,7 @@ numbers! {
 }
 
 impl Verdict {
-    /// The word of `tctool`.
+    /// The word that `tctool` prints.
     #[must_use]
     pub const fn name(self) -> &'static str {
         match self {
@@ -63,23 +63,23 @@ numbers! {
     FarmMode {
         /// S1: frames are accepted.
         Open = 0,
-        /// S2: no room for a frame was left; a release opens again.
+        /// S2: there was no room for a frame; a release opens the receiver again.
         Wait = 1,
-        /// S3: a number outside the window came; Unlock alone opens again.
+        /// S3: a number outside both windows arrived; only Unlock opens the receiver again.
         Lockout = 2,
     }
 }
 
-/// The numbers that make a receiver (CCSDS 232.1-B-2, 6.1), which a program may keep and go on from.
+/// The numbers of a receiver (CCSDS 232.1-B-2, 6.1), which a program may keep and continue from.
 #[derive(Clone, Copy, Debug, PartialEq, Eq, Hash)]
 pub struct FarmFields {
-    /// The window width: of both windows together; each is half of it. Even, 2 to 254.
+    /// The width of both windows together; each is half of it. Even, 2 to 254.
     pub width: u8,
     /// V(R), the number of the next frame to be accepted.
     pub vr: u8,
     /// The lockout flag.
     pub lockout: bool,
-    /// The wait flag, which comes with the retransmit flag.
+    /// The wait flag; while it is set, the retransmit flag is set too.
     pub wait: bool,
     /// The retransmit flag.
     pub retransmit: bool,
@@ -87,13 +87,13 @@ pub struct FarmFields {
     pub farm_b: u8,
 }
 
-/// The receiver FARM-1 of one virtual channel (CCSDS 232.1-B-2, section 6). It is given the frames of its own
-/// spacecraft and channel alone; no call here sees whose a frame is.
+/// The receiver FARM-1 of one virtual channel (CCSDS 232.1-B-2, section 6). Pass it only the frames of its own
+/// spacecraft and channel; no call here can check whose a frame is.
 #[derive(Clone, Debug, PartialEq, Eq)]
 pub struct Farm(ffi::Farm);
 
 impl Farm {
-    /// A receiver in its state Open, with all flags 0 and FARM-B 0, which expects the number `vr`.
+    /// Begins a receiver in state Open, with all flags 0 and FARM-B 0, that expects the number `vr`.
     ///
     /// # Errors
     ///
@@ -104,11 +104,11 @@ impl Farm {
         Ok(Self(farm))
     }
 
-    /// A receiver of fields that [`fields`](Farm::fields) returned.
+    /// Returns a receiver with the fields that [`fields`](Farm::fields) returned.
     ///
     /// # Errors
     ///
-    /// Refused with 255 [`Damaged`](CopFault::Damaged) where no receiver has them.
+    /// Refused with 255 [`Damaged`](CopFault::Damaged) if no receiver can have these fields.
     pub fn restore(fields: FarmFields) -> Result<Self, CopFault> {
         let farm = ffi::Farm {
             width: fields.width,
@@ -124,7 +124,7 @@ impl Farm {
         }
     }
 
-    /// The receiver's fields as they are.
+    /// Returns the receiver's present fields.
     #[must_use]
     pub fn fields(&self) -> FarmFields {
         FarmFields {
@@ -143,35 +143,35 @@ impl Farm {
         FarmMode::of(ffi::sedge_farm_state(&self.0))
     }
 
-    /// A Type-AD frame with the number `n` has arrived; `buffer_free` says whether there is room for its data. If its
-    /// verdict is [`Accepted`](Verdict::Accepted), hand the data on.
+    /// Judges a Type-AD frame with the number `n`; `buffer_free` states whether there is room for its data. If its
+    /// verdict is [`Accepted`](Verdict::Accepted), pass on the data.
     #[must_use]
     pub fn ad(&mut self, n: u8, buffer_free: bool) -> Verdict {
         Verdict::of(ffi::sedge_farm_ad(&mut self.0, n, buffer_free))
     }
 
-    /// A Type-BD frame has arrived; hand its data on in every state.
+    /// Counts a Type-BD frame; pass on its data in every state.
     pub fn bd(&mut self) {
         done(ffi::sedge_farm_bd(&mut self.0));
     }
 
-    /// The control command Unlock has arrived.
+    /// Executes the control command Unlock.
     pub fn unlock(&mut self) {
         done(ffi::sedge_farm_unlock(&mut self.0));
     }
 
-    /// The control command Set V(R) has arrived; in Lockout it is counted, and V(R) stays.
+    /// Executes the control command Set V(R); in Lockout it is only counted, and V(R) does not change.
     pub fn set_vr(&mut self, vr: u8) {
         done(ffi::sedge_farm_set_vr(&mut self.0, vr));
     }
 
-    /// There is room on board again.
+    /// Records that there is room on board again.
     pub fn released(&mut self) {
         done(ffi::sedge_farm_released(&mut self.0));
     }
 
-    /// The control word that reports on the receiver as it is, for the virtual channel `vcid`; the flags for the radio
-    /// channel and bit lock are false.
+    /// Returns the CLCW that reports the receiver's present state, for the virtual channel `vcid`; the flags for the
+    /// radio channel and bit lock are false.
     ///
     /// # Errors
     ///
@@ -182,7 +182,7 @@ impl Farm {
         Ok(Clcw::from_raw(word))
     }
 
-    /// The control word by the name of its call up to 0.2.
+    /// Returns the CLCW; the name of this call up to 0.2.
     #[deprecated(since = "0.3.0", note = "it is `control_word` now")]
     #[allow(clippy::missing_errors_doc)]
     pub fn report(&self, vcid: u8) -> Result<Clcw, ClcwFault> {

@@ -1,7 +1,7 @@
 //! The library's calls as c/include/sedgechisel.h declares them: the one module that has unsafe code. `rust/check`
 //! compares each number with the header, and `tools/bindings` writes the calls and the fields of structs.
 //!
-//! What the header asks of a caller holds of all calls here:
+//! What the header requires of a caller holds for all calls here:
 //! - each pointer is made of a reference or of a slice, so it is not null, is aligned, and may be read or written;
 //! - the count after a pointer to octets is that of the same slice, and Rust's octets are always written;
 //! - what is written is behind a `&mut`, so nothing else overlaps it;

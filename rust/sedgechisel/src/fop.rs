@@ -26,7 +26,7 @@ numbers! {
 }
 
 reasons! {
-    /// Why the sender has given up (CCSDS 232.1-B-2, 5.2.5). An alert discards all units, the one that waits too;
+    /// Why the sender has given up (CCSDS 232.1-B-2, 5.2.5). An alert discards all units, also the one that waits;
     /// nothing else does.
     Alert {
         Lockout = 1, "a report has the lockout flag";
@@ -39,18 +39,18 @@ reasons! {
     }
 }
 
-/// The control command of the state S5, and whether it has to be sent.
+/// The control command of the state S5, and whether it must be sent.
 #[derive(Clone, Copy, Debug, PartialEq, Eq, Hash)]
 pub enum Control {
     /// None, as in all other states.
     Idle,
-    /// It has to be sent.
+    /// It must be sent.
     Due(Command),
     /// It is sent.
     Sent(Command),
 }
 
-/// What goes on the link next.
+/// What is to be sent on the link next.
 #[derive(Clone, Copy, Debug, PartialEq, Eq, Hash)]
 pub enum Next {
     /// The control command Unlock, in a Type-BC frame.
@@ -59,20 +59,20 @@ pub enum Next {
     SetVr(u8),
     /// The unit that waits, in a Type-AD frame with the number; keep it under that number.
     First(u8),
-    /// The unit kept under the number, in a Type-AD frame with it.
+    /// The unit kept under the number, in a Type-AD frame with that number.
     Again(u8),
 }
 
-/// What a report did.
+/// The effect of a CLCW.
 #[derive(Clone, Copy, Debug, PartialEq, Eq, Hash)]
 pub struct Reported {
-    /// The number of units that are acknowledged, the oldest of those sent; their places may be used again.
+    /// The number of units that are acknowledged, the oldest of those sent; their slots may be used again.
     pub released: u8,
     /// Why the sender has given up, if it has.
     pub alert: Option<Alert>,
 }
 
-/// The numbers that make a sender (CCSDS 232.1-B-2, 5.1), which a program may keep and go on from.
+/// The numbers of a sender (CCSDS 232.1-B-2, 5.1), which a program may keep and continue from.
 ///
 /// In S1 to S5 the number of units sent is V(S) - NN(R), modulo 256; in S6 no unit is sent or waits, and the timer is
 /// off; only S5 has a control command.
@@ -82,7 +82,7 @@ pub struct FopFields {
     pub timer: u16,
     /// The ticks that are left while the timer runs, and 0 while it is off.
     pub ticks: u16,
-    /// Half the receiver's window width, 1 to 127: the most units sent and not acknowledged.
+    /// Half the receiver's window width, 1 to 127: the maximum number of units sent and not acknowledged.
     pub room: u8,
     /// The state.
     pub state: FopState,
@@ -94,7 +94,7 @@ pub struct FopFields {
     pub waiting: bool,
     /// The number of units sent and not acknowledged, at most `room`.
     pub sent: u8,
-    /// The number of these, the last ones, that are due to be sent again.
+    /// The number of these, the last ones, that are due to be retransmitted.
     pub due: u8,
     /// The window K, 1 to `room`.
     pub window: u8,
@@ -109,8 +109,8 @@ pub struct FopFields {
 /// The sender FOP-1 of one virtual channel (CCSDS 232.1-B-2, section 5, in the profile of docs/PROFILE.md).
 ///
 /// The sender keeps numbers; its caller keeps the units, which are the data of frames. One unit waits to be sent for
-/// the first time, and those that are sent and not acknowledged have the numbers from NN(R) to V(S) - 1, modulo 256,
-/// at most 127 of them. So 256 places, one for each number, always serve:
+/// the first time, and those that are sent and not acknowledged have the numbers from NN(R) to V(S) - 1, modulo 256, at
+/// most 127 of them. So 256 slots, one for each number, are always enough:
 ///
 /// ```
 /// use sedgechisel::{Clcw, Fop, Next, Reported};
@@ -135,7 +135,7 @@ pub struct FopFields {
 pub struct Fop(ffi::Fop);
 
 impl Fop {
-    /// A sender in its state S6 with V(S) and NN(R) 0, to a receiver of this window width, with the window K, the
+    /// Begins a sender in state S6 with V(S) and NN(R) 0, for a receiver of this window width, with the window K, the
     /// transmission limit and the timer's value in ticks.
     ///
     /// # Errors
@@ -148,11 +148,11 @@ impl Fop {
         Ok(Self(fop))
     }
 
-    /// A sender of fields that [`fields`](Fop::fields) returned.
+    /// Returns a sender with the fields that [`fields`](Fop::fields) returned.
     ///
     /// # Errors
     ///
-    /// Refused with 255 [`Damaged`](CopFault::Damaged) where no sender has them.
+    /// Refused with 255 [`Damaged`](CopFault::Damaged) if no sender can have these fields.
     pub fn restore(fields: FopFields) -> Result<Self, CopFault> {
         let (control, vr) = fields.control.raw();
         let mut fop = ffi::Fop {
@@ -171,12 +171,13 @@ impl Fop {
             control,
             vr,
         };
-        // To set the limit that it has changes nothing of a sender, and is refused of fields that are none.
+        // Setting the limit to its own value changes nothing in a sender, and is refused if these are not a sender's
+        // fields.
         CopFault::judge(ffi::sedge_fop_directive(&mut fop, SEDGE_SET_LIMIT, fields.limit.into()))?;
         Ok(Self(fop))
     }
 
-    /// The sender's fields as they are.
+    /// Returns the sender's present fields.
     #[must_use]
     pub fn fields(&self) -> FopFields {
         FopFields {
@@ -208,7 +209,7 @@ impl Fop {
 
     directives!();
 
-    /// Submits a unit, to be sent under sequence control: it waits, and the caller keeps it.
+    /// Submits a unit to be sent under sequence control. The unit waits, and the caller keeps it.
     ///
     /// # Errors
     ///
@@ -217,7 +218,7 @@ impl Fop {
         CopFault::judge(ffi::sedge_fop_submit(&mut self.0))
     }
 
-    /// Takes what goes on the link next, if there is anything.
+    /// Takes what is to be sent on the link next, if there is anything.
     #[must_use]
     #[allow(clippy::should_implement_trait)] // the header's name; a sender that has nothing now may have more later
     pub fn next(&mut self) -> Option<Next> {
@@ -232,8 +233,8 @@ impl Fop {
         }
     }
 
-    /// A control word has arrived, and this sender is that of the virtual channel `vcid`. Nothing is returned, and
-    /// nothing changes, for a word that reports on another channel.
+    /// Takes a CLCW for this sender, whose virtual channel is `vcid`. Returns nothing, and changes nothing, for a CLCW
+    /// that reports on another channel.
     #[must_use]
     pub fn clcw(&mut self, vcid: u8, word: &Clcw) -> Option<Reported> {
         let mut released = 0;
@@ -243,26 +244,26 @@ impl Fop {
         }
     }
 
-    /// A control word has arrived, by the name of this call up to 0.2.
+    /// Takes a CLCW; the name of this call up to 0.2.
     #[must_use]
     #[deprecated(since = "0.3.0", note = "it is `clcw` now")]
     pub fn report(&mut self, vcid: u8, word: &Clcw) -> Option<Reported> {
         self.clcw(vcid, word)
     }
 
-    /// A tick of the clock has passed: the alert, if there is one.
+    /// Counts a tick of the clock. Returns the alert, if there is one.
     #[must_use]
     pub fn tick(&mut self) -> Option<Alert> {
         alert_of(ffi::sedge_fop_tick(&mut self.0))
     }
 
-    /// The number of units, of those sent and not acknowledged, that were accepted on board when a report of this
-    /// value was made: the oldest ones, those with the numbers from NN(R) to `value` - 1 (CCSDS 232.1-B-2, 5.1). Where
-    /// V(S) = NN(R) that is 0, whatever the value. It says so after an alert too, until V(S) is set or an initiation
-    /// begins. `None` if V(S) is not NN(R) and the value is beyond V(S): then nothing is known of these units. It goes
-    /// by the numbers alone: after an alert that shows a broken condition nothing is known of them, whatever it says. A
-    /// report that was made while frames were on their way up says too little for what is sent again (docs/CONTROL.md,
-    /// "The steps").
+    /// Returns how many of the units that were sent and not acknowledged were accepted on board when a CLCW of this
+    /// value was made. They are the oldest ones, with the numbers from NN(R) to `value` - 1 (CCSDS 232.1-B-2, 5.1). If
+    /// V(S) = NN(R), the result is 0 for every value. If V(S) is not NN(R) and the value is beyond V(S), the result is
+    /// `None`: then nothing is known of these units. The call works after an alert too, until V(S) is set or an
+    /// initiation begins. It uses only the numbers: after an alert that shows a broken condition nothing is known of
+    /// these units, whatever the call returns. A CLCW that was made while frames were in transit on the uplink shows
+    /// too little for what is retransmitted (docs/CONTROL.md, "The steps").
     #[must_use]
     pub fn accepted_beyond(&self, value: u8) -> Option<u8> {
         let mut accepted = 0;
@@ -270,7 +271,7 @@ impl Fop {
     }
 }
 
-/// The same as [`Fop::accepted_beyond`], of a sender with these numbers for NN(R) and V(S).
+/// Returns what [`Fop::accepted_beyond`] returns, for a sender with this NN(R) and V(S).
 #[must_use]
 pub fn accepted_beyond(nn: u8, vs: u8, value: u8) -> Option<u8> {
     let mut accepted = 0;
@@ -282,14 +283,15 @@ fn alert_of(number: u8) -> Option<Alert> {
 }
 
 impl Alert {
-    /// Whether it says that a condition of the link is broken: of `Lockout`, `NnR`, `Clcw` and `Synch`. None of these can
-    /// come in a session that was begun by CLCW check, Unlock or Set V(R) and is confirmed, while the conditions hold
-    /// (docs/PROMISES.md). So the spacecraft has restarted, the link reorders or repeats frames, or there is a second
-    /// station; and before a session is confirmed there may be what an earlier one left, as a receiver in Lockout.
+    /// Returns whether the alert shows a broken condition of the link: true for `Lockout`, `NnR`, `Clcw` and `Synch`.
+    /// None of these can occur in a confirmed session that was begun by CLCW check, Unlock or Set V(R), while the
+    /// conditions hold (docs/PROMISES.md). So the spacecraft has restarted, the link reorders or repeats frames, or
+    /// there is a second station. Before a session is confirmed, the cause may be something that an earlier session
+    /// left behind, such as a receiver in Lockout.
     ///
-    /// After one of these nothing is known of what is on board until a session begins, and `Ground::resume` refuses
-    /// (docs/CONTROL.md, "After a reset"). After another one the next session goes on by `Ground::resume`
-    /// (docs/CONTROL.md, "After an alert").
+    /// After one of these alerts nothing is known of what is on board until a session begins, and `Ground::resume`
+    /// refuses (docs/CONTROL.md, "After a reset"). After any other alert, the next session continues with
+    /// `Ground::resume` (docs/CONTROL.md, "After an alert").
     #[must_use]
     pub const fn shows_a_broken_condition(self) -> bool {
         match self {
@@ -298,7 +300,7 @@ impl Alert {
         }
     }
 
-    /// What to look for after it, and the way on: a text for people.
+    /// What to look for after the alert, and how to recover: a text for people.
     #[must_use]
     pub const fn advice(self) -> &'static str {
         match self {

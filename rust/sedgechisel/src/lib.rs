@@ -1,20 +1,20 @@
-//! The CCSDS telecommand link with COP-1, both ends, for programs without heap: the frame check, telecommand
+//! Both ends of the CCSDS telecommand link with COP-1, for programs without a heap: the frame check, telecommand
 //! frames, space packets, control words, telemetry frames, the receiver FARM-1, the sender FOP-1, packets in segments
-//! and packets in telemetry frames. With the feature `nodes` it has both nodes with their queues, too, and the simulated
-//! link between two, which need an allocator. The books are CCSDS 133.0-B-2 (space packets), 132.0-B-3 (telemetry),
-//! 232.0-B-4 (telecommand) and 232.1-B-2 (COP-1).
+//! and packets in telemetry frames. The feature `nodes` adds both nodes with their queues, and the simulated link
+//! between two nodes; these need an allocator. The standards are CCSDS 133.0-B-2 (space packets), 132.0-B-3
+//! (telemetry), 232.0-B-4 (telecommand) and 232.1-B-2 (COP-1).
 //!
-//! This crate gives safe types to the library for C. In the proved library each call is proved to do what its contract
-//! says. The portable C that the crate compiles if it finds no library, and the crate itself, are tested, not proved.
-//! Without `nodes` it allocates nothing, keeps no state of its own, and needs no `std`.
+//! This crate provides safe types over the library for C. In the proved library each call is proved to do what its
+//! contract states. The portable C that the crate compiles if it finds no library, and the crate itself, are tested,
+//! not proved. Without `nodes` it allocates nothing, keeps no state of its own, and needs no `std`.
 //!
 //! - A codec is a type with `decode` and `encode`: [`TcFrame`], [`Packet`], [`Clcw`], [`TmFrame`]. What is decoded
 //!   borrows its data from the octets.
-//! - A machine is a type that is begun by `new` and has a call for each event: [`Farm`], [`Fop`], [`Map`],
-//!   [`TmBuilder`], [`TmExtractor`].
-//! - What a board executes next, once and in order over restarts, is decided by an [`Executor`]; the ground has
+//! - A machine is a type that `new` creates, with a call for each event: [`Farm`], [`Fop`], [`Map`], [`TmBuilder`],
+//!   [`TmExtractor`].
+//! - An [`Executor`] decides what a board executes next, once and in order over restarts; the ground has
 //!   [`BoardStatus`], [`command_packet`], [`LogOrder`] and [`history_after`].
-//! - What is refused is an `Err` of a small enum of faults, with the number and the name that sedgechisel.h has.
+//! - A refusal is an `Err` of a small enum of faults, with the number and the name in sedgechisel.h.
 //!
 //! ```
 //! use sedgechisel::{Body, Farm, Fecf, SegmentFlags, TcFrame, Verdict};
@@ -30,9 +30,9 @@
 //! # Ok::<(), Box<dyn std::error::Error>>(())
 //! ```
 //!
-//! Enums of faults, alerts and what comes of octets are `#[non_exhaustive]`: there may be more of them later.
+//! The enums of faults, of alerts and of what became of octets are `#[non_exhaustive]`: they may gain variants later.
 //!
-//! No call panics, unless the library that is linked is not the one that this crate was made for.
+//! No call panics, unless the linked library is not the one that this crate was made for.
 #![no_std]
 #![cfg_attr(docsrs, feature(doc_cfg))]
 #![deny(unsafe_code, missing_docs)]

@@ -1,5 +1,5 @@
-//! Commands that are executed once and in order on board, over restarts at any moment: the board's half, and the codecs
-//! of the ground.
+//! Commands that are executed once and in order on board, over restarts at any moment: the board's half, and the
+//! ground's codecs.
 
 use crate::ffi;
 use crate::numbers::{done, never};
@@ -7,12 +7,12 @@ use crate::numbers::{done, never};
 faults! {
     /// Why a board does not take a packet, a record or a status is not read, or a packet is not written.
     LogFault {
-        Layout = 1, "not exactly one packet of this layout, or not as many octets as the layout has";
-        Check = 2, "the check does not hold, or a field has a value that no layout gives it";
+        Layout = 1, "not exactly one packet of this layout, or not the layout's number of octets";
+        Check = 2, "the check does not hold, or a field has a value that the layout does not allow";
         Starting = 3, "the board has started, and a copy of its record is being repaired";
         Busy = 4, "the record is being written, a command is executed, or a restart is due";
         Lost = 5, "the board has lost its record";
-        Behind = 6, "the command's number is that of one that was executed or passed over";
+        Behind = 6, "a command with this number was executed or passed over";
         Ahead = 7, "the command's number is above the next one";
         OtherBoot = 8, "the order is for another boot count";
         NotLost = 9, "the order brings a record, and the board has its own";
@@ -43,7 +43,7 @@ pub enum LogAction {
 }
 
 /// Decides on board which command is executed next: each once and in order, over restarts at any moment. It does no
-/// input or output, and takes no memory.
+/// input or output, and needs no memory.
 ///
 /// ```
 /// use sedgechisel::{Executor, LogAction, LogPlace};
@@ -62,7 +62,7 @@ pub enum LogAction {
 /// assert_eq!(&places[0][..4], [0, 0, 0, 1]); // the boot count
 /// ```
 ///
-/// An action is done, whole, before the next one is requested; so this is refused:
+/// An action is completed before the next one is requested; so this is refused:
 ///
 /// ```compile_fail,E0499
 /// # use sedgechisel::Executor;
@@ -77,15 +77,15 @@ pub struct Executor {
 }
 
 impl Executor {
-    /// The octets at one place: of the record, twice.
+    /// The number of octets at one place, which holds the record twice.
     pub const RECORD: usize = 50;
 
-    /// The octets of a status.
+    /// The number of octets in a status.
     pub const STATUS: usize = 27;
 
-    /// Starts with the octets at the two places of the memory that survives restarts, 50 each. A place with other
-    /// octets has no record. The mark is another one at each start, from a clock or at random: if neither place has a
-    /// record, it is the mark of this loss.
+    /// Starts with the octets at the two places of the memory that survives restarts, 50 each. A place with any other
+    /// octets has no record. Pass another mark at each start, from a clock or at random: if neither place has a record,
+    /// it is the mark of this loss.
     #[must_use]
     pub fn start(first: &[u8], second: &[u8], mark: u32) -> Self {
         let mut log = ffi::Log::default();
@@ -93,7 +93,7 @@ impl Executor {
         Self { log }
     }
 
-    /// What the program does now, or nothing: then a command or an order may be passed in.
+    /// Returns the program's next action. If there is none, a command or an order may be passed in.
     #[allow(clippy::should_implement_trait)]
     pub fn next(&mut self) -> Option<Due<'_>> {
         let (mut octets, mut number) = ([0; Self::RECORD], 0);
@@ -109,8 +109,8 @@ impl Executor {
         Some(Due { executor: self, action, kind, number })
     }
 
-    /// Takes the octets of a packet that arrived if it is the next command, and returns the mission's octets in them:
-    /// the program keeps these until the command is executed.
+    /// Takes the octets of a packet that arrived if it is the next command, and returns the mission's octets in them.
+    /// The program keeps these until the command has been executed.
     ///
     /// # Errors
     ///
@@ -121,8 +121,8 @@ impl Executor {
         Ok(content.of(octets))
     }
 
-    /// Takes the octets of an order that arrived. The next action is then to restart; or the board that has lost its
-    /// record continues with the one that the order brings.
+    /// Takes the octets of an order that arrived. The next action is then to restart; or a board that has lost its
+    /// record continues with the record that the order brings.
     ///
     /// # Errors
     ///
@@ -131,7 +131,7 @@ impl Executor {
         LogFault::judge(ffi::log_obey(&mut self.log, octets))
     }
 
-    /// The status for telemetry, with how many commands wait on board, at most 255.
+    /// Returns the status for telemetry, with the number of commands that wait on board, at most 255.
     #[must_use]
     pub fn status(&self, waiting: usize) -> [u8; Self::STATUS] {
         let mut octets = [0; Self::STATUS];
@@ -139,7 +139,7 @@ impl Executor {
         octets
     }
 
-    /// The octets that both places have before a new board starts for the first time.
+    /// Returns the octets that both places have before a new board starts for the first time.
     #[must_use]
     pub fn new_record() -> [u8; Self::RECORD] {
         let mut octets = [0; Self::RECORD];
@@ -148,7 +148,7 @@ impl Executor {
     }
 }
 
-/// An action that is due: the program does it, whole, and then consumes it with [`done`](Due::done). If it is dropped
+/// An action that is due: the program completes it, and then consumes it with [`done`](Due::done). If it is dropped
 /// instead, [`Executor::next`] returns the action again.
 #[derive(Debug)]
 #[must_use = "the action is due until it is done"]
@@ -166,13 +166,13 @@ impl Due<'_> {
         &self.action
     }
 
-    /// The status for telemetry while the action is due, as [`Executor::status`] returns it.
+    /// Returns the status for telemetry while the action is due, as [`Executor::status`] does.
     #[must_use]
     pub fn status(&self, waiting: usize) -> [u8; Executor::STATUS] {
         self.executor.status(waiting)
     }
 
-    /// The action was done, whole.
+    /// Records that the action is complete.
     pub fn done(self) {
         done(ffi::sedge_log_done(&mut self.executor.log, self.kind, self.number));
     }
@@ -208,7 +208,7 @@ pub enum BoardStatus {
 }
 
 impl BoardStatus {
-    /// Reads a status of 27 octets. Returns also how many commands wait on board, at most 255.
+    /// Reads a status of 27 octets. Also returns how many commands wait on board, at most 255.
     ///
     /// # Errors
     ///
@@ -249,7 +249,7 @@ pub fn command_packet<'o>(
     Ok(&mut out[..total])
 }
 
-/// An order to the board itself. It goes up by bypass (Type-BD).
+/// An order to the board itself. It is sent by bypass (Type-BD).
 #[derive(Clone, Copy, Debug, PartialEq, Eq, Hash)]
 pub enum LogOrder {
     /// The board with this boot count restarts.
@@ -257,7 +257,7 @@ pub enum LogOrder {
         /// The boot count.
         boot: u32,
     },
-    /// The board that has lost its record, with this mark of the loss, gets this one.
+    /// The board that has lost its record, with this mark of the loss, gets this record.
     Rebuild {
         /// The mark of the loss.
         mark: u32,
@@ -269,7 +269,7 @@ pub enum LogOrder {
 }
 
 impl LogOrder {
-    /// The octets of an order.
+    /// The number of octets in an order.
     pub const LENGTH: usize = 23;
 
     /// Writes the order as a packet with this APID and sequence count.
@@ -292,8 +292,8 @@ impl LogOrder {
     }
 }
 
-/// The history after one command packet more: CRC-32 continued over the last four octets of the packet. The history of
-/// no packets is 0. A ground compares that of the packets that it sent with the history of a status.
+/// Returns the history after one more command packet: CRC-32 continued over the last four octets of the packet. The
+/// history of no packets is 0. A ground compares the history of the packets that it sent with the history of a status.
 #[must_use]
 pub fn history_after(history: u32, packet: &[u8]) -> u32 {
     ffi::log_history_after(history, packet)

@@ -23,11 +23,11 @@ faults! {
     MapFault {
         NotAPacket = 1, "they are not exactly one packet, or with blocking not one or more whole packets";
         TooLong = 2, "a packet has more octets than max_packet";
-        Damaged = 255, "a struct has a value that no sender, receiver or MAP has, or one out of its enum";
+        Damaged = 255, "a struct has a value that no sender, receiver or MAP has, or one outside its enum";
     }
 }
 
-/// A MAP on board, which joins segments to packets in its caller's memory (CCSDS 232.0-B-4, 4.1.3.2.2).
+/// A MAP on board, which joins segments into packets in its caller's memory (CCSDS 232.0-B-4, 4.1.3.2.2).
 ///
 /// ```
 /// use sedgechisel::{Map, SegmentFlags};
@@ -40,7 +40,7 @@ faults! {
 /// }
 /// ```
 ///
-/// Packets are handed on before the next segment is taken, which may overwrite them; so this is refused:
+/// Packets are passed on before the next segment is taken, which may overwrite them; so this is refused:
 ///
 /// ```compile_fail,E0499
 /// # use sedgechisel::{Map, SegmentFlags};
@@ -57,8 +57,8 @@ pub struct Map<'m> {
 }
 
 impl<'m> Map<'m> {
-    /// A MAP with no part open. The memory is as many octets as the longest packet may have. With blocking an alone
-    /// segment may hold several whole packets.
+    /// Begins a MAP with no part open. The memory must have as many octets as the longest packet may have. With
+    /// blocking, an alone segment may hold several whole packets.
     #[must_use]
     pub fn new(memory: &'m mut [u8], blocking: bool) -> Self {
         Self { kept: ffi::Map { blocking: blocking.into(), ..ffi::Map::default() }, memory }
@@ -70,7 +70,7 @@ impl<'m> Map<'m> {
         (self.kept.open != 0).then(|| &self.memory[..self.kept.count])
     }
 
-    /// Takes the next segment of the MAP, its flags and its data.
+    /// Takes the next segment of the MAP: its flags and its data.
     #[must_use]
     pub fn take<'t>(&'t mut self, flags: SegmentFlags, data: &'t [u8]) -> Taken<'t> {
         let mut taken = ffi::Taken::default();
@@ -86,7 +86,7 @@ impl<'m> Map<'m> {
     }
 }
 
-/// What came of a segment. If a part was interrupted, there may be packets too.
+/// What became of a segment. If a part was interrupted, there may be packets too.
 #[derive(Clone, Debug)]
 pub struct Taken<'t> {
     /// The packets that are whole now, in the MAP's memory or in the segment's data.
@@ -95,13 +95,13 @@ pub struct Taken<'t> {
     pub dropped: Option<Dropped>,
 }
 
-/// The whole packets that octets begin with, one after another.
+/// The whole packets at the beginning of octets, one after another.
 #[must_use]
 pub fn packets(octets: &[u8]) -> Packets<'_> {
     Packets { octets, last: ffi::Part::default() }
 }
 
-/// The octets of packets one after another, by [`packets`].
+/// The packets one after another, from [`packets`].
 #[derive(Clone, Debug)]
 pub struct Packets<'a> {
     octets: &'a [u8],
@@ -121,15 +121,15 @@ impl FusedIterator for Packets<'_> {}
 /// How a sender cuts packets.
 #[derive(Clone, Copy, Debug, PartialEq, Eq, Hash)]
 pub struct Limits {
-    /// The most octets of data in a segment, at least 1.
+    /// The maximum length of a segment's data in octets, at least 1.
     pub part: u32,
-    /// The most octets of a packet.
+    /// The maximum length of a packet in octets.
     pub max_packet: u32,
     /// Whether packets that have at most `part` octets together go into one segment.
     pub blocking: bool,
 }
 
-/// The segments that a packet is cut into, or with blocking one or more packets, one after another (CCSDS 232.0-B-4,
+/// The segments into which a packet is cut, or with blocking one or more packets, one after another (CCSDS 232.0-B-4,
 /// 4.1.3.2.2). Nothing is copied.
 ///
 /// ```
@@ -156,8 +156,8 @@ pub fn segments<'a>(octets: &'a [u8], limits: &Limits) -> Result<Segments<'a>, M
     Ok(Segments { octets, limits, left: count, rest: octets, begun: 0 })
 }
 
-/// The segments that octets are cut into, by [`segments`]: of each its flags and its data. All of them take time in
-/// proportion to the number of packets and segments.
+/// The segments into which octets are cut, from [`segments`]: the flags and the data of each. The time for all of them
+/// is proportional to the number of packets and segments.
 #[derive(Clone, Debug)]
 pub struct Segments<'a> {
     octets: &'a [u8],
@@ -166,21 +166,21 @@ pub struct Segments<'a> {
     left: usize,
     /// The packets of these segments.
     rest: &'a [u8],
-    /// The number of segments that were returned of the first of these packets.
+    /// The number of segments of the first of these packets that were returned.
     begun: usize,
 }
 
 impl<'a> Segments<'a> {
-    /// Segment `k` of all, counted from 0, if there are that many. One call takes time in proportion to the number of
-    /// packets.
+    /// Segment `k` of all, counted from 0, if there are that many. The time of one call is proportional to the number
+    /// of packets.
     #[must_use]
     pub fn get(&self, k: usize) -> Option<(SegmentFlags, &'a [u8])> {
         let (flags, data) = place(self.octets, &self.limits, k)?;
         Some((flags, data.of(self.octets)))
     }
 
-    /// The packets that are left, up to the one with which they have more octets than a segment. What comes after these
-    /// changes nothing of the next segment.
+    /// The packets that are left, up to the first with which they exceed a segment. Later packets do not change the
+    /// next segment.
     fn first_packets(&self) -> &'a [u8] {
         let mut last = ffi::Part::default();
         let mut end = 0;

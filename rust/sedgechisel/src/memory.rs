@@ -1,4 +1,4 @@
-//! The memory of what keeps octets: lent by its caller, or with the nodes its own.
+//! The memory of a type that keeps octets: lent by its caller, or with the feature `nodes` its own.
 
 #[cfg(feature = "nodes")]
 use alloc::vec::Vec;
@@ -14,7 +14,7 @@ pub(crate) enum Memory<'m> {
 
 #[cfg(feature = "nodes")]
 impl Memory<'_> {
-    /// Memory of this many octets, if there is any.
+    /// Memory of this many octets, if there is enough.
     pub(crate) fn own(room: usize) -> Option<Self> {
         crate::nodes::room_for(room).map(Self::Own)
     }

@@ -23,13 +23,13 @@ faults! {
         ClosedMap = 2, "the MAP is not open";
         NotCommand = 3, "the octets are not command packets, or not as many as one call takes";
         TooLong = 4, "a packet has more octets than it may have";
-        QueueFull = 5, "as many units as may wait are waiting";
-        Memory = 6, "there was no memory";
+        QueueFull = 5, "as many units wait as may wait";
+        Memory = 6, "out of memory";
         NotKnown = 10, "nothing is known of how far the session has come";
     }
 }
 
-/// Room for a number of octets, if there is memory for it.
+/// A buffer for a number of octets, if there is memory for it.
 pub(crate) fn room_for(count: usize) -> Option<Vec<u8>> {
     let mut room = Vec::new();
     room.try_reserve_exact(count).ok()?;
@@ -37,7 +37,8 @@ pub(crate) fn room_for(count: usize) -> Option<Vec<u8>> {
     Some(room)
 }
 
-/// A packet of `count` octets that a call takes out; nothing if there is none. The call is made where there is room.
+/// A packet of `count` octets that a call takes out; nothing if there is none. The call is made only if there is memory
+/// for the packet.
 fn taken(count: usize, take: impl FnOnce(&mut [u8], &mut usize) -> u8) -> Result<Option<Vec<u8>>, LinkFault> {
     if count == 0 {
         return Ok(None);
@@ -47,7 +48,7 @@ fn taken(count: usize, take: impl FnOnce(&mut [u8], &mut usize) -> u8) -> Result
     Ok(Some(packet))
 }
 
-/// What a call takes out, one after another as it is asked for, until there is no more; a refusal is the last.
+/// What a call takes out, one after another on request, until there is no more; a refusal is the last.
 fn one_by_one<'n, T: 'n>(
     mut take: impl FnMut() -> Result<Option<T>, LinkFault> + 'n,
 ) -> impl FusedIterator<Item = Result<T, LinkFault>> + 'n {
@@ -63,7 +64,7 @@ fn one_by_one<'n, T: 'n>(
     from_fn(next).fuse()
 }
 
-/// Calls that can be refused for want of memory alone.
+/// Calls that can be refused only because memory runs out.
 fn in_memory(answer: u8) -> Result<(), LinkFault> {
     match answer {
         ffi::SEDGE_OK => Ok(()),
@@ -78,7 +79,7 @@ fn in_memory(answer: u8) -> Result<(), LinkFault> {
 mod tests {
     use super::*;
 
-    /// Each number has the word of the library here, and none where the library has none.
+    /// Each number has the same name here as in the library, or no name if the library has none.
     #[test]
     fn names_are_those_of_the_library_of_nodes() {
         for it in 0..=u8::MAX {

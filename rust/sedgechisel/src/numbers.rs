@@ -10,13 +10,13 @@ macro_rules! numbers {
         pub enum $name { $($(#[$note])* $case = $number,)* }
 
         impl $name {
-            /// The number that sedgechisel.h has.
+            /// The number in sedgechisel.h.
             #[must_use]
             pub const fn number(self) -> u8 {
                 self as u8
             }
 
-            /// What has this number, or nothing.
+            /// The variant with this number, if there is one.
             #[must_use]
             pub const fn from_number(number: u8) -> Option<Self> {
                 match number {
@@ -25,7 +25,7 @@ macro_rules! numbers {
                 }
             }
 
-            /// What has the number that the library returned.
+            /// The variant with the number that the library returned.
             #[allow(dead_code)]
             pub(crate) const fn of(number: u8) -> Self {
                 match Self::from_number(number) {
@@ -37,8 +37,8 @@ macro_rules! numbers {
     };
 }
 
-/// An enum of reasons, which are errors: each has a number, a name, and a text that says what it means. There may be more
-/// of them later.
+/// An enum of reasons, which are errors: each has a number, a name, and a text that states what it means. The enum may
+/// gain variants later.
 macro_rules! reasons {
     ($(#[$notes:meta])* $name:ident { $($case:ident = $number:literal, $text:literal;)* }) => {
         numbers! { $(#[$notes])* #[non_exhaustive] $name { $(#[doc = $text] $case = $number,)* } }
@@ -71,7 +71,7 @@ macro_rules! reasons {
     };
 }
 
-/// Enums of faults: besides, 0 is none.
+/// Enums of faults, for which 0 means no fault.
 macro_rules! faults {
     ($(#[$notes:meta])* $name:ident { $($rest:tt)* }) => {
         reasons! { $(#[$notes])* $name { $($rest)* } }
@@ -94,7 +94,7 @@ pub(crate) const fn never() -> ! {
     panic!("sedgechisel: the library linked is not that of this crate")
 }
 
-/// A call that is refused only where its struct is damaged, which those of this crate never are.
+/// A call that is refused only if its struct is damaged, which no struct of this crate ever is.
 pub(crate) fn done(answer: u8) {
     if answer != crate::ffi::SEDGE_OK {
         never()
@@ -107,7 +107,7 @@ mod tests {
     use std::string::{String, ToString};
     use std::vec::Vec;
 
-    /// What each alert says is what the library says of it.
+    /// The texts of each alert are those of the library.
     #[test]
     fn what_alerts_say_is_what_the_library_says() {
         for it in 0..=u8::MAX {
@@ -118,8 +118,8 @@ mod tests {
         }
     }
 
-    /// Each number below 253 has the word of the library here. The library has two words more, of faults that no call
-    /// for C has. The numbers from 253 on are those that all kinds of calls share, which have no word.
+    /// Each number below 253 has the library's word here. The library has two more words, for faults that no call for C
+    /// returns. The numbers from 253 on are those that all kinds of calls share, which have no word.
     #[test]
     fn names_are_those_of_the_library() {
         macro_rules! compare {

@@ -10,8 +10,8 @@ faults! {
         Version = 2, "the version number is not 000 (4.1.3.2)";
         IdleWithSecondary = 3, "an idle packet with a secondary header (4.1.3.3.3)";
         Room = 4, "there is too little room for the packet";
-        FieldRange = 5, "a field out of its range, no data or more than 65,536 octets of them, or an idle packet \
-            with a secondary header";
+        FieldRange = 5, "a field out of range, no data or more than 65,536 octets of them, or an idle packet with a \
+            secondary header";
     }
 }
 
@@ -46,7 +46,7 @@ pub struct Packet<'a> {
     pub kind: PacketKind,
     /// Whether the data field begins with a secondary header (4.1.3.3.3).
     pub secondary: bool,
-    /// The application process identifier, below 2,048; 2,047 is that of idle packets (4.1.3.3.4).
+    /// The application process identifier, below 2,048; idle packets have 2,047 (4.1.3.3.4).
     pub apid: u16,
     /// The sequence flags.
     pub flags: SequenceFlags,
@@ -57,10 +57,10 @@ pub struct Packet<'a> {
 }
 
 impl<'a> Packet<'a> {
-    /// The most octets of a packet.
+    /// The maximum length of a packet in octets.
     pub const LONGEST: usize = 65_542;
 
-    /// Reads the packet at the beginning of the octets; the packet ends where its data end, and octets after it are
+    /// Reads the packet at the beginning of the octets. The packet ends where its data end, and octets after it are
     /// ignored.
     ///
     /// # Errors
@@ -99,8 +99,8 @@ impl<'a> Packet<'a> {
         Ok(&mut out[..total])
     }
 
-    /// The length in octets of the packet that begins with these octets, by its first 6 octets alone; for cutting a
-    /// stream (CCSDS 133.0-B-2, 4.1.3.5).
+    /// Returns the length in octets of the packet that begins with these octets, from its first 6 octets only; use it
+    /// to cut a stream (CCSDS 133.0-B-2, 4.1.3.5).
     ///
     /// # Errors
     ///
@@ -113,7 +113,7 @@ impl<'a> Packet<'a> {
     }
 }
 
-/// A check of the sequence counts of all application processes, which shows packets that are missing (CCSDS 133.0-B-2,
+/// A check of the sequence counts of all application processes, which shows missing packets (CCSDS 133.0-B-2,
 /// 4.1.3.4.3). It has 4,096 octets.
 ///
 /// ```
@@ -127,7 +127,7 @@ impl<'a> Packet<'a> {
 pub struct GapCheck(ffi::GapCheck);
 
 impl GapCheck {
-    /// A check that has seen no packet.
+    /// Begins a check that has seen no packet.
     #[must_use]
     pub fn new() -> Self {
         let mut check = ffi::GapCheck { last: [0; 2048] };
@@ -135,13 +135,13 @@ impl GapCheck {
         Self(check)
     }
 
-    /// Sees a packet of this APID with this count: how many are missing before it, (count - last - 1) modulo 16,384, or
-    /// nothing for the first of its APID.
+    /// Records a packet of this APID with this count. Returns the number of packets missing before it, (count - last -
+    /// 1) modulo 16,384, or `None` for the first packet of its APID.
     ///
     /// # Errors
     ///
     /// Refused with 5 [`FieldRange`](PacketFault::FieldRange), for an APID above 2,047 or a count above 16,383; nothing
-    /// is seen then.
+    /// is recorded then.
     pub fn see(&mut self, apid: u16, count: u16) -> Result<Option<u16>, PacketFault> {
         let mut missing = 0;
         match ffi::sedge_gap_check_see(&mut self.0, apid, count, &mut missing) {

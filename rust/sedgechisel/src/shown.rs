@@ -1,4 +1,4 @@
-//! What states, commands and events print as: the words of `tctool`, which has a line for each event.
+//! How states, commands and events are printed: in the words of `tctool`, which has a line for each event.
 
 use crate::{Command, Control, FarmMode, FopState, Next};
 use core::fmt::{Display, Formatter, Result};

@@ -14,15 +14,15 @@ faults! {
         Length = 5, "the declared total is not the number of octets, or too small (4.1.2.7)";
         Check = 6, "the last two octets are not the check of those before them (4.1.4)";
         BypassNumber = 7, "a frame with the bypass flag has a number other than 0 (4.1.2.8)";
-        EmptyData = 8, "no octet in the data field, or a segment header alone";
+        EmptyData = 8, "no octet in the data field, or only a segment header";
         Command = 9, "the data of a control frame are neither Unlock nor Set V(R) (4.1.3.3)";
         Room = 10, "there is too little room for the frame";
-        FieldRange = 11, "a field out of its range, no data, or more than 1,024 octets";
+        FieldRange = 11, "a field out of range, no data, or more than 1,024 octets";
     }
 }
 
 numbers! {
-    /// Where a segment stands in what it is a part of (CCSDS 232.0-B-4, 4.1.3.2.2.2).
+    /// The position of a segment in what it is a part of (CCSDS 232.0-B-4, 4.1.3.2.2.2).
     SegmentFlags {
         /// Neither the first nor the last.
         Continuing = 0,
@@ -44,7 +44,7 @@ pub enum Fecf {
     Absent,
 }
 
-/// `true` is [`Present`](Fecf::Present). For calls as they were before there was a [`Fecf`]; it will be taken away.
+/// `true` is [`Present`](Fecf::Present). This is for calls written before [`Fecf`] existed, and will be removed.
 impl From<bool> for Fecf {
     fn from(is_present: bool) -> Self {
         if is_present {
@@ -58,7 +58,7 @@ impl From<bool> for Fecf {
 /// A segment: its header, and the data after it (CCSDS 232.0-B-4, 4.1.3.2.2).
 #[derive(Clone, Copy, Debug, PartialEq, Eq, Hash)]
 pub struct Segment<'a> {
-    /// Where it stands in what it is a part of.
+    /// Its position in the packet.
     pub flags: SegmentFlags,
     /// The MAP identifier, below 64.
     pub map: u8,
@@ -106,7 +106,7 @@ pub struct TcFrame<'a> {
 }
 
 impl<'a> TcFrame<'a> {
-    /// The most octets of a frame.
+    /// The maximum length of a frame in octets.
     pub const LONGEST: usize = 1024;
 
     /// Reads all of the octets as one frame, with or without its FECF: `decode(octets, Fecf::Present)`.
@@ -128,10 +128,10 @@ impl<'a> TcFrame<'a> {
         Ok(Self { scid: frame.scid, vcid: frame.vcid, body })
     }
 
-    /// Reads the frames that stand one after another in the octets, each as long as it declares: each as
+    /// Reads the frames that follow one another in the octets, each as long as it declares. Returns each as
     /// [`decode`](Self::decode) reads it, or its fault with its octets. Octets that are left after the last whole frame
-    /// come at the end, with 1 [`Short`](TcFault::Short) for fewer than 5, or 5 [`Length`](TcFault::Length); no frame
-    /// before has either.
+    /// are returned at the end, with 1 [`Short`](TcFault::Short) for fewer than 5, or 5 [`Length`](TcFault::Length); no
+    /// frame before them has either fault.
     ///
     /// ```
     /// use sedgechisel::{Fecf, TcFault, TcFrame};
@@ -175,8 +175,8 @@ impl<'a> TcFrame<'a> {
         Ok(&mut out[..total])
     }
 
-    /// The length in octets of the frame that begins with these octets, by its first 5 octets alone; for cutting a
-    /// stream (CCSDS 232.0-B-4, 4.1.2.7).
+    /// Returns the length in octets of the frame that begins with these octets, from its first 5 octets only; use it to
+    /// cut a stream (CCSDS 232.0-B-4, 4.1.2.7).
     ///
     /// # Errors
     ///
@@ -195,7 +195,7 @@ impl Fecf {
     }
 }
 
-/// The frames that stand one after another in octets, by [`TcFrame::decode_all`].
+/// The frames that follow one another in octets, from [`TcFrame::decode_all`].
 #[derive(Clone, Debug)]
 pub struct TcFrames<'a> {
     rest: &'a [u8],
@@ -204,8 +204,8 @@ pub struct TcFrames<'a> {
 }
 
 impl TcFrames<'_> {
-    /// Those alone whose header names this spacecraft and virtual channel, refused ones too, and what is left at the
-    /// end. It does not look into the others, so it takes no time for their FECF.
+    /// Returns only the frames whose header names this spacecraft and virtual channel, including refused ones, and what
+    /// is left at the end. It reads only the headers of other frames, so it takes no time for their FECF.
     ///
     /// ```
     /// use sedgechisel::{Fecf, TcFault, TcFrame};

@@ -13,11 +13,11 @@ faults! {
         Status = 4, "a flag of the data field status is 1, or its identifier is not 11 (4.1.2.7)";
         Pointer = 5, "a first header pointer at or after the data field's end (4.1.2.7.6)";
         NoOcf = 6, "the frame declares no operational control field (4.1.2.4)";
-        Memory = 7, "there is too little memory for what would be kept";
+        Memory = 7, "out of memory for what would be kept";
         NotAPacket = 8, "not exactly one packet, or an idle packet";
         Room = 9, "there is too little room for the frame";
-        FieldRange = 10, "a field out of its range, a pointer after the data, not 4 to 2,036 octets of data, or a \
-            length outside 16 to 2,048";
+        FieldRange = 10, "a field out of range, a pointer after the data, not 4 to 2,036 octets of data, or a length \
+            outside 16 to 2,048";
     }
 }
 
@@ -52,7 +52,7 @@ pub struct TmFrame<'a> {
 }
 
 impl<'a> TmFrame<'a> {
-    /// The most octets of a frame.
+    /// The maximum length of a frame in octets.
     pub const LONGEST: usize = 2048;
 
     /// Reads all of the octets as one frame of this length.
@@ -74,8 +74,8 @@ impl<'a> TmFrame<'a> {
         })
     }
 
-    /// Reads the frames of this length that stand one after another in the octets: each as [`decode`](Self::decode)
-    /// reads it, or its fault with its octets. Octets that are left at the end come last, with 1
+    /// Reads the frames of this length that follow one another in the octets. Returns each as [`decode`](Self::decode)
+    /// reads it, or its fault with its octets. Octets that are left at the end are returned last, with 1
     /// [`Length`](TmFault::Length).
     ///
     /// ```
@@ -121,7 +121,7 @@ impl<'a> TmFrame<'a> {
     }
 }
 
-/// The frames that stand one after another in octets, by [`TmFrame::decode_all`].
+/// The frames that follow one another in octets, from [`TmFrame::decode_all`].
 #[derive(Clone, Debug)]
 pub struct TmFrames<'a> {
     rest: &'a [u8],
@@ -130,9 +130,9 @@ pub struct TmFrames<'a> {
 }
 
 impl TmFrames<'_> {
-    /// Those alone whose header names this spacecraft and virtual channel, refused ones too, and what is left at the
-    /// end: the frames for one [`TmExtractor`](crate::TmExtractor). It does not look into the others, so it takes no
-    /// time for their FECF.
+    /// Returns only the frames whose header names this spacecraft and virtual channel, including refused ones, and what
+    /// is left at the end: the frames for one [`TmExtractor`](crate::TmExtractor). It reads only the headers of other
+    /// frames, so it takes no time for their FECF.
     ///
     /// ```
     /// use sedgechisel::{TmFault, TmFrame};
@@ -148,7 +148,7 @@ impl TmFrames<'_> {
         Self { channel: Some((scid, vcid)), ..self }
     }
 
-    /// Whether the header of a frame names the channel, if there is one; or it is what is left.
+    /// Whether the header of a frame names the channel, if there is one; also true for what is left.
     fn has(&self, frame: &[u8]) -> bool {
         match (self.channel, frame) {
             (Some(channel), &[high, low, ..]) if frame.len() == self.length => {
@@ -185,7 +185,7 @@ impl Pointer {
         }
     }
 
-    /// A place whose number means something else is after all data, and so is the one before these.
+    /// A place whose number has another meaning is after all data, and so is the place before these.
     fn raw(self) -> u16 {
         match self {
             Self::At(place) => place.min(ffi::SEDGE_POINTER_ONLY_IDLE - 1),

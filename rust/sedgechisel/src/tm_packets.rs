@@ -6,8 +6,8 @@ use crate::memory::Memory;
 use crate::tm::{Pointer, TmFault, TmFrame};
 use core::iter::FusedIterator;
 
-/// Builds the frames of one virtual channel, all of one length, out of packets that wait in memory that its caller
-/// lends, or with the feature `nodes` in its own (CCSDS 132.0-B-3, 4.2).
+/// Builds the frames of one virtual channel, all of one length, from packets. These wait in memory that the caller
+/// lends or, with the feature `nodes`, in memory of its own (CCSDS 132.0-B-3, 4.2).
 ///
 /// ```
 /// use sedgechisel::{Pointer, TmBuilder, TmFrame};
@@ -26,8 +26,8 @@ pub struct TmBuilder<'m> {
 }
 
 impl<'m> TmBuilder<'m> {
-    /// A builder of frames of `length` octets, 16 to 2,048, whose counts begin at 0. The memory is as many octets of
-    /// packets as may wait.
+    /// Begins a builder of frames of `length` octets, 16 to 2,048, whose counts begin at 0. The memory must have as
+    /// many octets as the packets that may wait.
     ///
     /// # Errors
     ///
@@ -47,13 +47,14 @@ impl<'m> TmBuilder<'m> {
     /// # Errors
     ///
     /// Refused with the first of 8 [`NotAPacket`](TmFault::NotAPacket), for octets that are not exactly one packet or
-    /// an idle one, and 7 [`Memory`](TmFault::Memory).
+    /// are an idle one, and 7 [`Memory`](TmFault::Memory).
     pub fn queue(&mut self, packet: &[u8]) -> Result<(), TmFault> {
         TmFault::judge(ffi::tm_builder_queue(&mut self.kept, packet, &mut self.memory))
     }
 
     /// Writes the next frame, with this operational control field, to the beginning of `out`, and returns its octets.
-    /// Where packets run out it has an idle packet, and where none are left only idle data.
+    /// If packets run out within the frame, an idle packet fills it; if no packets are left, the frame has only idle
+    /// data.
     ///
     /// # Errors
     ///
@@ -68,13 +69,13 @@ impl<'m> TmBuilder<'m> {
 #[cfg(feature = "nodes")]
 #[cfg_attr(docsrs, doc(cfg(feature = "nodes")))]
 impl TmBuilder<'static> {
-    /// A builder as [`new`](TmBuilder::new) begins one, which owns its memory: `room` octets of packets may wait. It
-    /// may go to another thread, and gives its memory back when it is dropped.
+    /// Begins a builder as [`new`](TmBuilder::new) does, but one that owns its memory: `room` octets of packets may
+    /// wait. The builder can be moved to another thread, and releases its memory when it is dropped.
     ///
     /// # Errors
     ///
-    /// Refused with the first of 10 [`FieldRange`](TmFault::FieldRange) and 7 [`Memory`](TmFault::Memory), where there
-    /// is none.
+    /// Refused with the first of 10 [`FieldRange`](TmFault::FieldRange) and, if there is no memory, 7
+    /// [`Memory`](TmFault::Memory).
     pub fn owning(scid: u16, vcid: u8, length: usize, room: usize) -> Result<Self, TmFault> {
         let kept = ffi::TmBuilder::opened(scid, vcid, length)?;
         Ok(Self { kept, memory: Memory::own(room).ok_or(TmFault::Memory)? })
@@ -90,10 +91,11 @@ impl ffi::TmBuilder {
     }
 }
 
-/// Extracts packets from the frames of one virtual channel, of which any may be missing; the part of a packet whose end
-/// is to come is in memory that its caller lends, or with the feature `nodes` in its own (CCSDS 132.0-B-3, 4.3).
+/// Extracts packets from the frames of one virtual channel; any of the frames may be missing. The part of a packet that
+/// has not ended is in memory that the caller lends or, with the feature `nodes`, in memory of its own (CCSDS
+/// 132.0-B-3, 4.3).
 ///
-/// Packets are handed on before the next frame is taken, which may overwrite them; so this is refused:
+/// Packets are passed on before the next frame is taken, which may overwrite them; so this is refused:
 ///
 /// ```compile_fail,E0499
 /// # use sedgechisel::{TmExtractor, TmFrame};
@@ -113,24 +115,24 @@ pub struct TmExtractor<'m> {
 }
 
 impl<'m> TmExtractor<'m> {
-    /// The octets of memory that are enough for all packets: as many as the longest packet and the longest data of a
-    /// frame have together.
+    /// A number of octets of memory that is enough for all packets: the octets of the longest packet and of the longest
+    /// data of a frame together.
     pub const ENOUGH: usize = 67_578;
 
-    /// An extractor that has seen no frame. As many octets of memory as the longest packet and the data of a frame
-    /// have together are enough, and [`ENOUGH`](Self::ENOUGH) for all packets.
+    /// Begins an extractor that has seen no frame. The memory is large enough if it has as many octets as the longest
+    /// packet and the data of a frame have together; [`ENOUGH`](Self::ENOUGH) octets are enough for all packets.
     #[must_use]
     pub fn new(memory: &'m mut [u8]) -> Self {
         Self { kept: ffi::TmExtractor::default(), memory: Memory::Lent(memory) }
     }
 
-    /// The part of a packet whose end is to come; no octets where there is none.
+    /// The part of a packet that has not ended; no octets if there is none.
     #[must_use]
     pub fn part(&self) -> &[u8] {
         ffi::Part { from: self.kept.from, count: self.kept.count }.of(&self.memory)
     }
 
-    /// Takes the next frame of its spacecraft and channel that came. Where frames are missing before it, the part is
+    /// Takes the next received frame of its spacecraft and channel. If frames are missing before it, the part is
     /// dropped.
     ///
     /// # Errors
@@ -145,20 +147,21 @@ impl<'m> TmExtractor<'m> {
         Ok(Extracted { packets: TmPackets { joined, data: frame.data, last: extracted.packets }, lost })
     }
 
-    /// Takes the frames of `length` octets that stand one after another, each as [`TmFrame::decode`] and then
-    /// [`take`](Self::take) take it, before this returns, in about the time of both. So the packets of all of them may
-    /// be used together: those that lie within a frame are lent from the octets. The other two hold the rest of what comes:
-    /// 19 octets of each frame, and the packets that began in an earlier frame.
+    /// Takes consecutive frames of `length` octets, each as [`TmFrame::decode`] and then [`take`](Self::take) do, in
+    /// about the time of both. The frames are taken before the call returns, so the packets of all these frames may be
+    /// used together. Packets within one frame are borrowed from the octets. `records` receives 19 octets for each
+    /// frame, and `packets` receives the packets that began in an earlier frame.
     ///
-    /// It stops where one of these has no room left, and where no whole frame is left: `packets` has to have as much left
-    /// for a frame as the memory and the frame have. [`len`](ExactSizeIterator::len) says how many frames were taken, and
-    /// [`rest`](TakenFrames::rest) is what stands after these: go on with it until none are taken. What is left then is
-    /// no whole frame. It is fastest where these places stay in the processor's cache, with some 100 frames a call.
+    /// It stops when one of these buffers has no room left, or when no whole frame is left. For each frame `packets`
+    /// must have as many octets left as the memory and the frame have together. [`len`](ExactSizeIterator::len) returns
+    /// how many frames were taken, and [`rest`](TakenFrames::rest) the octets after them. Call again with these octets
+    /// until no frame is taken; the octets that are then left do not form a whole frame. The call is fastest if these
+    /// buffers stay in the processor's cache, with about 100 frames per call.
     ///
     /// # Errors
     ///
     /// Refused with 1 [`Length`](TmFault::Length), for a length outside 16 to 2,048, or with 9 [`Room`](TmFault::Room),
-    /// where `records` has fewer than 19 octets, or `packets` fewer than the memory and a frame have. No frame is taken
+    /// if `records` has fewer than 19 octets, or `packets` fewer than the memory and a frame have. No frame is taken
     /// then, and nothing has changed.
     ///
     /// ```
@@ -206,8 +209,8 @@ impl<'m> TmExtractor<'m> {
         Ok(TakenFrames { octets, rest, length, records: &records[..RECORD * count], joined: &packets[..end] })
     }
 
-    /// Takes the frame that the octets are, if they are one: writes its record, and the packet that it ends of those
-    /// that were begun before it. Returns how many octets this packet has.
+    /// Takes the frame in the octets, if they form one. Writes its record, and the packet that began before the frame
+    /// and ends in it. Returns the length of this packet.
     fn take_whole(&mut self, octets: &[u8], record: &mut [u8], out: &mut [u8]) -> usize {
         let (mut frame, mut data) = (ffi::TmFrame::default(), ffi::Part::default());
         let (mut taken, mut dropped) = (ffi::TmExtracted::default(), false);
@@ -225,9 +228,9 @@ impl<'m> TmExtractor<'m> {
     }
 }
 
-/// The record of a frame: how many octets the packet has that it ends, of three octets, the lowest one first; where the
-/// packets in its data begin, of two; its fault, how many frames are missing before it, and whether it is the first, and
-/// a packet is dropped; and its fields.
+/// The record of a frame: in three octets, the lowest one first, the length of the packet that the frame ends; in two
+/// octets, where the packets in its data begin; its fault; how many frames are missing before it; whether it is the
+/// first, and whether a packet is dropped; and its fields.
 fn record_of(frame: &ffi::TmFrame, fault: u8, taken: &ffi::TmExtracted, dropped: bool) -> [u8; RECORD] {
     let [c0, c1, c2, _] = (taken.joined as u32).to_le_bytes();
     let [f0, f1] = (taken.packets.from as u16).to_le_bytes();
@@ -239,7 +242,7 @@ fn record_of(frame: &ffi::TmFrame, fault: u8, taken: &ffi::TmExtracted, dropped:
     [c0, c1, c2, f0, f1, fault, taken.lost, how, s0, s1, p0, p1, vcid, mc_count, vc_count, o0, o1, o2, o3]
 }
 
-/// The first octets of the packet whose end is to come, at most two.
+/// The first octets of the packet that has not ended, at most two.
 struct Begun {
     octets: [u8; 2],
     count: usize,
@@ -254,8 +257,8 @@ impl Begun {
         }
     }
 
-    /// Whether a frame that was taken drops it, and it is not idle (docs/PROFILE.md, "Extraction", 1 to 4). After the
-    /// frame so many octets are left of a packet whose end is to come.
+    /// Whether a frame that was taken drops this packet, and the packet is not idle (docs/PROFILE.md, "Extraction", 1
+    /// to 4). After the frame this many octets are left of a packet that has not ended.
     fn is_dropped(&self, frame: &ffi::TmFrame, data: &[u8], taken: &ffi::TmExtracted, left: usize) -> bool {
         let goes_on = frame.pointer == ffi::SEDGE_POINTER_NO_START && left > 0;
         if self.count == 0 || taken.joined > 0 || goes_on {
@@ -273,27 +276,27 @@ impl Begun {
     }
 }
 
-/// The octets of a record.
+/// The number of octets in a record.
 const RECORD: usize = 19;
 
 #[cfg(feature = "nodes")]
 #[cfg_attr(docsrs, doc(cfg(feature = "nodes")))]
 impl TmExtractor<'static> {
-    /// An extractor as [`new`](TmExtractor::new) begins one, which owns its memory, of `room` octets. It may go to
-    /// another thread, and gives its memory back when it is dropped.
+    /// Begins an extractor as [`new`](TmExtractor::new) does, but one that owns its memory of `room` octets. The
+    /// extractor can be moved to another thread, and releases its memory when it is dropped.
     ///
     /// # Errors
     ///
-    /// Refused with 7 [`Memory`](TmFault::Memory) alone, where there is none.
+    /// Refused only with 7 [`Memory`](TmFault::Memory), if there is none.
     pub fn owning(room: usize) -> Result<Self, TmFault> {
         Ok(Self { kept: ffi::TmExtractor::default(), memory: Memory::own(room).ok_or(TmFault::Memory)? })
     }
 }
 
-/// What came of a frame.
+/// What became of a frame.
 #[derive(Clone, Debug)]
 pub struct Extracted<'t> {
-    /// The packets whose last octets it has, but for idle ones.
+    /// The packets whose last octets it contains, except idle ones.
     pub packets: TmPackets<'t>,
     /// The number of frames that are missing before it, modulo 256; none is known before the first (4.1.2.6).
     pub lost: Option<u8>,
@@ -320,20 +323,20 @@ impl<'t> Iterator for TmPackets<'t> {
 
 impl FusedIterator for TmPackets<'_> {}
 
-/// What came of frames one after another, by [`TmExtractor::take_all`]: of each, or its fault with its octets.
+/// What became of consecutive frames, from [`TmExtractor::take_all`]: the result of each, or its fault with its octets.
 #[derive(Clone, Debug)]
 pub struct TakenFrames<'o, 't> {
     octets: &'o [u8],
     rest: &'o [u8],
     length: usize,
     records: &'t [u8],
-    /// The packets that these frames end of those that were begun before them, one after another.
+    /// The packets that began before these frames and end in them, one after another.
     joined: &'t [u8],
 }
 
 impl<'o> TakenFrames<'o, '_> {
-    /// The octets after the frames that were taken, whichever of these are still to be given: frames for which there was
-    /// no room, and at the end of all what is no whole frame.
+    /// The octets after the frames that were taken, whether or not the iterator has returned those frames yet. They are
+    /// the frames for which there was no room, and at the very end octets that do not form a whole frame.
     #[must_use]
     pub fn rest(&self) -> &'o [u8] {
         self.rest
@@ -345,16 +348,16 @@ impl<'o> TakenFrames<'o, '_> {
 pub struct TakenFrame<'t> {
     /// The frame.
     pub frame: TmFrame<'t>,
-    /// The packets whose last octets it has, but for idle ones.
+    /// The packets whose last octets it contains, except idle ones.
     pub packets: TmPackets<'t>,
     /// The number of frames that are missing before it, modulo 256; none is known before the first (4.1.2.6).
     pub lost: Option<u8>,
-    /// Whether a packet that was begun is dropped, which is not idle.
+    /// Whether a packet that had begun, and is not idle, was dropped.
     pub dropped: bool,
 }
 
 impl<'t> TakenFrame<'t> {
-    /// What a record says of a frame of these octets, with the packet that it ends, or no octets.
+    /// The contents of the record of a frame with these octets, and the packet that the frame ends, or no octets.
     fn of(record: &[u8], octets: &'t [u8], joined: &'t [u8]) -> Result<Self, TmFault> {
         TmFault::judge(record[5])?;
         let two = |at| u16::from_le_bytes([record[at], record[at + 1]]);
@@ -407,7 +410,8 @@ mod tests {
     const FRAMES: usize = 2000;
     const ROOM: usize = 24 * FRAMES + 200;
 
-    /// Frames of packets, idle ones, and octets that are none, wherever these may begin; some are lost or damaged.
+    /// Frames of packets, idle packets, and octets that do not form a packet, wherever these may begin; some are lost
+    /// or damaged.
     fn any_frames() -> [u8; 24 * FRAMES] {
         let (mut octets, mut state, mut vc_count) = ([0; 24 * FRAMES], 1_u32, 0_u8);
         let mut any = |below: u32| {
@@ -431,7 +435,7 @@ mod tests {
         octets
     }
 
-    /// What `take_all` says of each frame is what the library's call for many frames says of it.
+    /// The result of `take_all` for each frame is the result of the library's call for many frames.
     #[test]
     fn frames_are_taken_as_by_the_call_for_many() {
         let octets = any_frames();

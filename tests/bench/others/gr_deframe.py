@@ -1,6 +1,6 @@
-"""CADUs of the board of examples/radio, as soft symbols with wrong bits, through the deframer of gr-satellites:
-`gr_deframe.py BOARD.so`. Each frame must come out as it was sent, and a Ground must take all of them. Debian: gr-satellites
-and gnuradio, for /usr/bin/python3. The last line ends in the number of differences."""
+"""Passes CADUs of the board of examples/radio, as soft symbols with wrong bits, through the deframer of gr-satellites:
+`gr_deframe.py BOARD.so`. Each frame must come out as it was sent, and a Ground must take all of them. Debian:
+gr-satellites and gnuradio, for /usr/bin/python3. The last line ends in the number of differences."""
 import ctypes
 import os
 import sys

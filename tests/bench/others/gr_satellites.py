@@ -1,6 +1,7 @@
-"""The header layouts of gr-satellites beside this project's codecs, each reading and writing 1,000 random values of TC and TM
-frames, packets and CLCWs; then its blocks that add headers and that reconstruct packets. Debian: gr-satellites, for
-/usr/bin/python3. The last line ends in the number of differences of the layouts; what the blocks do comes before it."""
+"""Compares the header layouts of gr-satellites with this project's codecs, each reading and writing 1,000 random values
+of TC and TM frames, packets and CLCWs; then its blocks that add headers and that reconstruct packets. Debian:
+gr-satellites, for /usr/bin/python3. The last line ends in the number of differences of the layouts; what the blocks do
+comes before it."""
 import random
 import sys
 

@@ -1,5 +1,5 @@
-"""Wireshark's own dissector `ccsds` beside this project's codec: 1,000 random packets, in datagrams. Debian: tshark. The last
-line ends in the number of differences."""
+"""Compares Wireshark's own dissector `ccsds` with this project's codec, on 1,000 random packets in datagrams. Debian:
+tshark. The last line ends in the number of differences."""
 import os
 import random
 import subprocess

@@ -1,7 +1,7 @@
 #!/usr/bin/env python3
-"""A receiver with FARM-1 that knows the book alone (CCSDS 232.1-B-2, 6), for driver.py --link to be tried against. It
-was written apart from the crates and from the model, of what docs/PROFILE.md and tables/farm.csv say that the book
-has."""
+"""A receiver with FARM-1 that only knows the standard (CCSDS 232.1-B-2, 6), for trials of driver.py --link. It was
+written independently of the crates and of the model, from what docs/PROFILE.md and tables/farm.csv state about the
+standard."""
 import sys
 from binascii import crc_hqx
 
@@ -72,6 +72,10 @@ def is_valid(frame):
     return frame[0] & 0x30 != 0x30 or command == b"\0" or len(command) == 3 and command[:2] == b"\x82\0"
 
 
+if sys.argv[1:]:
+    import argparse  # (only now, since a driver starts this program often)
+
+    argparse.ArgumentParser(description=__doc__, formatter_class=argparse.RawDescriptionHelpFormatter).parse_args()
 farm = Farm1()
 for line in map(str.strip, sys.stdin):
     if not line or line.startswith("#"):

@@ -1,7 +1,7 @@
 #!/usr/bin/env python3
-"""A sender with FOP-1 that knows the book alone (CCSDS 232.1-B-2, 5), for driver.py --link to be tried against. It was
-written apart from the crates and from the model, of what docs/PROFILE.md and tables/fop.csv say that the book has. The
-lower procedures are ready for a frame only when the line `send` asks for it."""
+"""A sender with FOP-1 that only knows the standard (CCSDS 232.1-B-2, 5), for trials of driver.py --link. It was written
+independently of the crates and of the model, from what docs/PROFILE.md and tables/fop.csv state about the standard. The
+lower procedures are ready for a frame only when the line `send` requests it."""
 import re
 import sys
 from binascii import crc_hqx
@@ -183,6 +183,10 @@ class Fop1:
         return "nothing" if frame is None else f"sent {frame.hex().upper()}"
 
 
+if sys.argv[1:]:
+    import argparse  # (only now, since a driver starts this program often)
+
+    argparse.ArgumentParser(description=__doc__, formatter_class=argparse.RawDescriptionHelpFormatter).parse_args()
 fop = Fop1()
 for line in map(str.strip, sys.stdin):
     if not line or line.startswith("#"):

@@ -90,7 +90,7 @@ impl Parameter {
 }
 
 /// The managed parameters, with the ranges and the defaults of docs/PROFILE.md. Both ends of a link have the same ones.
-/// End a literal with `..Config::default()`, so that it stands where there is one more.
+/// End a literal with `..Config::default()`, so that it still compiles when there is one more.
 ///
 /// ```
 /// use sedgechisel::{Config, Parameter};
@@ -115,26 +115,26 @@ pub struct Config {
     pub limit: u8,
     /// The timer's value in ticks, 1 to 65,535; default 10.
     pub timer: u16,
-    /// The most octets of data in a segment, 1 to 1,016 (without silence before an initiation, segments of two longer
-    /// packets can be joined into a command that nobody submitted); default 1,016.
+    /// The maximum number of data octets in a segment. Without silence before an initiation, segments of two longer
+    /// packets can be joined into a command that nobody submitted. Range 1 to 1,016; default 1,016.
     pub part: u16,
-    /// The most octets of a packet, 7 to 65,542; default 65,542.
+    /// The maximum length of a packet in octets, 7 to 65,542; default 65,542.
     pub max_packet: u32,
-    /// Bit m, which counts 2 to the power of m, says that MAP m is open, any 64 bits; default all ones.
+    /// The open MAPs, any 64 bits: bit m, of value 2 to the power of m, is 1 if MAP m is open; default all ones.
     pub maps: u64,
     /// The number of packets waiting to be taken at which the buffer on board is full, 1 to 64; default 64.
     pub ready_slots: u8,
-    /// The most packets of bypass frames that wait to be taken, 1 to 64; default 4.
+    /// The maximum number of bypass packets that wait to be taken, 1 to 64; default 4.
     pub bypass_slots: u8,
-    /// The most units that wait to be sent for the first time, 1 to 65,535; default 1,000.
+    /// The maximum number of units that wait to be sent for the first time, 1 to 65,535; default 1,000.
     pub queue_slots: u16,
-    /// The octets of a telemetry frame, 16 to 2,048; default 64.
+    /// The length of a telemetry frame in octets, 16 to 2,048; default 64.
     pub frame_length: u16,
-    /// Whether a segment may hold several packets; by default not.
+    /// 1 if a segment may contain several packets, 0 to 1; default 0.
     pub blocking: bool,
 }
 
-/// The same for the library: `struct sedge_config`.
+/// The parameters as the library has them: `struct sedge_config`.
 #[repr(C)]
 #[derive(Clone, Copy, Debug, Default, PartialEq, Eq)]
 pub struct Raw {
@@ -178,7 +178,7 @@ impl Default for Config {
 }
 
 impl Config {
-    /// The first parameter that is out of its range, if one is.
+    /// Returns the first parameter that is out of range, if there is one.
     #[must_use]
     pub fn fault(&self) -> Option<Parameter> {
         match raw::sedge_config_fault(&self.raw()) {
@@ -207,7 +207,7 @@ impl Config {
         }
     }
 
-    /// What a call answered that opens with this configuration.
+    /// The result of a call that opens with this configuration.
     pub(super) fn judge(&self, answer: u8) -> Result<(), OpenFault> {
         match self.fault() {
             Some(parameter) => Err(OpenFault::OutOfRange(parameter)),
@@ -220,13 +220,13 @@ impl Config {
 #[derive(Clone, Copy, Debug, PartialEq, Eq, Hash)]
 #[non_exhaustive]
 pub enum OpenFault {
-    /// The first parameter that is out of its range.
+    /// The first parameter that is out of range.
     OutOfRange(Parameter),
     /// FARM-B, of the numbers that were kept, is above 3.
     FarmB,
-    /// The record is none that a ground of this configuration gives.
+    /// The record is not one that a ground of this configuration writes.
     Kept,
-    /// There was no memory.
+    /// Memory ran out.
     Memory,
 }
 

@@ -8,19 +8,19 @@ use alloc::vec::Vec;
 use core::fmt;
 use core::iter::FusedIterator;
 
-/// What the ground makes of a report, which a telemetry frame carries, or which comes by itself.
+/// What the ground makes of a CLCW, whether a telemetry frame carries it or it comes by itself.
 #[derive(Clone, Copy, Debug, PartialEq, Eq, Hash)]
 #[non_exhaustive]
 pub enum HeardReport {
-    /// It is given to the sender.
+    /// It is passed to the sender.
     Used,
-    /// It is none.
+    /// It is not a valid CLCW.
     Refused(ClcwFault),
-    /// It is about another virtual channel.
+    /// It reports on another virtual channel.
     OtherChannel,
 }
 
-/// What the ground makes of a report that came by itself.
+/// What the ground makes of a CLCW that came by itself.
 #[derive(Clone, Copy, Debug, PartialEq, Eq, Hash)]
 pub struct HeardClcw {
     /// What became of it.
@@ -33,7 +33,7 @@ pub struct HeardClcw {
 #[derive(Clone, Copy, Debug, PartialEq, Eq, Hash)]
 #[non_exhaustive]
 pub enum Heard {
-    /// They are no telemetry frame.
+    /// They do not form a valid telemetry frame.
     Invalid(TmFault),
     /// A frame of another spacecraft or virtual channel.
     Foreign,
@@ -41,9 +41,9 @@ pub enum Heard {
     Frame {
         /// The number of frames that are missing before it, modulo 256; `None` for the first frame.
         gap: Option<u8>,
-        /// The number of packets that came to wait to be taken.
+        /// The number of packets added to those that wait to be taken.
         packets: usize,
-        /// What became of its report.
+        /// What became of its CLCW.
         report: HeardReport,
         /// Why the sender has given up, if it has.
         alert: Option<Alert>,
@@ -53,11 +53,11 @@ pub enum Heard {
 /// The names of two cases up to 0.2.
 #[allow(non_snake_case, non_upper_case_globals)]
 impl HeardReport {
-    /// It is about another virtual channel.
+    /// It reports on another virtual channel.
     #[deprecated(since = "0.3.0", note = "it is `OtherChannel` now")]
     pub const Other: Self = Self::OtherChannel;
 
-    /// It is none.
+    /// It is not a valid CLCW.
     #[must_use]
     #[deprecated(since = "0.3.0", note = "it is `Refused` now")]
     pub const fn None(fault: ClcwFault) -> Self {
@@ -102,8 +102,9 @@ pub(super) fn alert_of(number: u8) -> Option<Alert> {
     (number != 0).then(|| Alert::of(number))
 }
 
-/// What is kept of a ground, so that another goes on where it was lost: V(S), NN(R) (CCSDS 232.1-B-2, 5.1) and the
-/// account of the submissions that were sent whole. It has a fixed size, and a program stores it as it likes.
+/// The record of a ground, from which another continues if the ground is lost: V(S), NN(R) (CCSDS 232.1-B-2, 5.1) and
+/// the counts of the submissions that were sent whole. The record has a fixed size, and a program stores it in any
+/// form.
 #[derive(Clone, Copy, Debug, PartialEq, Eq, Hash)]
 pub struct KeptGround {
     /// How many submissions are acknowledged whole, modulo 2^64.
@@ -112,16 +113,16 @@ pub struct KeptGround {
     pub vs: u8,
     /// NN(R), the number that the spacecraft was last known to expect.
     pub nn: u8,
-    /// Whether these are a session's, and no alert has shown that a condition is broken.
+    /// Whether these numbers are a session's, and no alert has shown a broken condition.
     pub known: bool,
-    /// How many submissions more were sent whole, 0 to 127.
+    /// The number of further submissions that were sent whole, 0 to 127.
     pub whole: u8,
-    /// How many segments of each of these are not acknowledged, the oldest first; and then zeros.
+    /// For each of these, the oldest first, the number of its segments that are not acknowledged; then zeros.
     pub segments: [u8; 127],
 }
 
-/// The ground: it sends packets until they are accepted on board, and takes telemetry (docs/PROFILE.md, "The node on the
-/// ground"). Its memory is given back when it is dropped.
+/// The ground: it sends packets until they are accepted on board, and takes telemetry (docs/PROFILE.md, "The node on
+/// the ground"). Its memory is released when it is dropped.
 ///
 /// ```
 /// use sedgechisel::{Config, Ground, TcFrame};
@@ -148,19 +149,19 @@ impl fmt::Debug for Ground {
 }
 
 impl Ground {
-    /// A ground in the state S6 with V(S) and NN(R) 0.
+    /// Opens a ground in state S6 with V(S) and NN(R) 0.
     ///
     /// # Errors
     ///
-    /// Refused with the first parameter that is out of its range, or for want of memory.
+    /// Refused with the first parameter that is out of range, or if memory runs out.
     pub fn new(config: &Config) -> Result<Self, OpenFault> {
         let mut ground = Self(raw::Own::default());
         config.judge(raw::sedge_ground_open(ground.0.get(), &config.raw()))?;
         Ok(ground)
     }
 
-    /// A ground that goes on where another was lost, in the state S6, at what [`kept`](Self::kept) gave of that one:
-    /// with its V(S), its NN(R) and its account of submissions, and with the window, the limit and the timer of the
+    /// Opens a ground that continues, in state S6, from the record that [`kept`](Self::kept) returned of a lost one:
+    /// with its V(S), its NN(R) and its counts of submissions, and with the window, the limit and the timer of the
     /// configuration. [`resume`](Self::resume) begins its next session, as after an alert.
     ///
     /// # Errors
@@ -199,10 +200,10 @@ impl Ground {
         }
     }
 
-    /// What is kept of this ground, in a record of fixed size. A program stores it after each call, and after a pull
-    /// before the frame goes out; where the ground is lost, [`open_at`](Self::open_at) opens another at it. Of
-    /// submissions that were not sent whole nothing is kept, nor of bypass packets, of telemetry, and of what directives
-    /// set.
+    /// Returns this ground's record, which has a fixed size. A program stores the record after each call, and after a
+    /// pull before the frame goes out. If the ground is lost, [`open_at`](Self::open_at) opens another one from the
+    /// record. The record contains nothing of submissions that were not sent whole, of bypass packets, of telemetry, or
+    /// of what directives set.
     #[must_use]
     pub fn kept(&self) -> KeptGround {
         let mut kept = raw::KeptGround {
@@ -231,10 +232,10 @@ impl Ground {
 
     directives!();
 
-    /// Submits packets on a MAP, to be sent under sequence control: one, or with blocking several, one after another.
-    /// Returns the number of this submission in its session, from 0. [`resume`](Self::resume) counts submissions: of
-    /// several packets that do not fit into one segment together, of [`part`](Config::part) octets, some may be on board
-    /// when the submission is not counted.
+    /// Submits one packet on a MAP under sequence control, or with blocking several, one after another. Returns the
+    /// number of this submission in its session, from 0. [`resume`](Self::resume) counts submissions. If several
+    /// packets do not fit into one segment together, of [`part`](Config::part) octets, some of them may be on board
+    /// although the submission is not counted.
     ///
     /// # Errors
     ///
@@ -245,7 +246,7 @@ impl Ground {
         Ok(number)
     }
 
-    /// Submits one packet on a MAP past the sequence control, in any state.
+    /// Submits one packet on a MAP by bypass (Type-BD), in any state.
     ///
     /// # Errors
     ///
@@ -254,17 +255,17 @@ impl Ground {
         LinkFault::judge(raw::ground_bypass(self.0.get(), map, packet))
     }
 
-    /// Takes the telecommand frame that goes on the link next, with its FECF, and writes it to the beginning of the
-    /// room; or `None`, if nothing is to be sent now.
+    /// Takes the next telecommand frame for the link, with its FECF, and writes it to the beginning of the buffer.
+    /// Returns `None` if nothing is to be sent now.
     pub fn pull<'o>(&mut self, room: &'o mut [u8; TcFrame::LONGEST]) -> Option<&'o mut [u8]> {
         let mut count = 0;
         done(raw::ground_pull(self.0.get(), room, &mut count));
         (count > 0).then_some(&mut room[..count])
     }
 
-    /// The telecommand frames that go on the link next, until nothing is to be sent now. Each is taken when it is asked
-    /// for, as [`pull`](Self::pull) takes it; those that are not asked for stay in the ground. Refused with 6
-    /// [`Memory`](LinkFault::Memory) alone, and then there are no more; the frame does not count as sent.
+    /// Returns the next telecommand frames for the link, until nothing is to be sent now. Each is taken on request, as
+    /// [`pull`](Self::pull) takes it; those that are not requested stay in the ground. Refused only with 6
+    /// [`Memory`](LinkFault::Memory), and then there are no more; the frame does not count as sent.
     pub fn frames(&mut self) -> impl FusedIterator<Item = Result<Vec<u8>, LinkFault>> + '_ {
         one_by_one(|| {
             let mut count = 0;
@@ -273,48 +274,48 @@ impl Ground {
         })
     }
 
-    /// Writes the telecommand frame that goes on the link next, as `pull` does; or `None`, if nothing is to be sent now.
-    /// The ground stays as it is: the frame counts as sent once [`advance`](Self::advance) is called, as where a radio
-    /// that may refuse it has taken it.
+    /// Writes the next telecommand frame for the link as `pull` does. Returns `None` if nothing is to be sent now. The
+    /// ground does not change. The frame counts as sent once [`advance`](Self::advance) is called, for example when a
+    /// radio that may refuse it has taken it.
     pub fn peek<'o>(&self, room: &'o mut [u8; TcFrame::LONGEST]) -> Option<&'o mut [u8]> {
         let mut count = 0;
         self.0.read(|it| raw::ground_peek(it, room, &mut count));
         (count > 0).then_some(&mut room[..count])
     }
 
-    /// Counts the frame that goes on the link next as sent, as `pull` does.
+    /// Counts the next frame for the link as sent, as `pull` does.
     pub fn advance(&mut self) {
         done(raw::sedge_ground_advance(self.0.get()));
     }
 
-    /// Octets came from the spacecraft, which are one telemetry frame if all is well.
+    /// Takes octets that came from the spacecraft: normally one telemetry frame.
     ///
     /// # Errors
     ///
-    /// Refused with 6 [`Memory`](LinkFault::Memory) alone.
+    /// Refused only with 6 [`Memory`](LinkFault::Memory).
     pub fn telemetry(&mut self, octets: &[u8]) -> Result<Heard, LinkFault> {
         let mut heard = raw::Heard::default();
         in_memory(raw::ground_telemetry(self.0.get(), octets, &mut heard))?;
         Ok(Heard::from_raw(&heard))
     }
 
-    /// A report came by itself, a CLCW as a front end hands it on. The sender gets it as it does that of a telemetry
-    /// frame; telemetry is not touched. The last one may be given again before the next, which changes nothing; an older
-    /// one may not come again as if it were new.
+    /// Takes a CLCW that came by itself, as a front end forwards it. The sender receives it like the CLCW of a
+    /// telemetry frame; telemetry is not touched. The front end may repeat the last CLCW before the next one, which
+    /// changes nothing; it may not forward an older one as if it were new.
     pub fn clcw(&mut self, octets: &[u8; 4]) -> HeardClcw {
         let mut heard = raw::Heard::default();
         done(raw::ground_clcw(self.0.get(), octets, &mut heard));
         HeardClcw::from_raw(&heard)
     }
 
-    /// Begins to take packets out of telemetry anew, as after a restart of the spacecraft: a packet that is not finished
-    /// is dropped. Packets that wait to be taken stay.
+    /// Restarts the extraction of packets from telemetry, for example after a restart of the spacecraft. An unfinished
+    /// packet is dropped. Packets that wait to be taken stay.
     pub fn forget_telemetry(&mut self) {
         done(raw::sedge_ground_forget_telemetry(self.0.get()));
     }
 
-    /// The report that a telemetry frame carries, of whichever spacecraft and virtual channel; `None` if the octets are
-    /// no frame, or the frame carries no report.
+    /// Returns the CLCW that a telemetry frame of any spacecraft and virtual channel carries; `None` if the octets do
+    /// not form a valid frame, or the frame carries no CLCW.
     #[must_use]
     pub fn clcw_in(&self, octets: &[u8]) -> Option<Clcw> {
         let mut word = Default::default();
@@ -322,7 +323,7 @@ impl Ground {
         found.then(|| Clcw::from_raw(word))
     }
 
-    /// The report that a telemetry frame carries, by the name of this call up to 0.2.
+    /// Returns the CLCW that a telemetry frame carries; the name of this call up to 0.2.
     #[must_use]
     #[deprecated(since = "0.3.0", note = "it is `clcw_in` now")]
     pub fn report_in(&self, octets: &[u8]) -> Option<Clcw> {
@@ -333,31 +334,32 @@ impl Ground {
     ///
     /// # Errors
     ///
-    /// Refused with 6 [`Memory`](LinkFault::Memory) alone; the packet waits then.
+    /// Refused only with 6 [`Memory`](LinkFault::Memory); the packet waits then.
     pub fn take_telemetry(&mut self) -> Result<Option<Vec<u8>>, LinkFault> {
         let mut count = 0;
         done(raw::sedge_ground_next_telemetry(self.0.get(), &mut count));
         taken(count, |out, written| raw::ground_take_telemetry(self.0.get(), out, written))
     }
 
-    /// The packets that telemetry frames carried, the oldest one first. Each is taken when it is asked for, as
-    /// [`take_telemetry`](Self::take_telemetry) takes it; those that are not asked for stay in the ground. Refused with
-    /// 6 [`Memory`](LinkFault::Memory) alone, and then there are no more; the packet waits.
+    /// Returns the packets that telemetry frames carried, the oldest one first. Each is taken on request, as
+    /// [`take_telemetry`](Self::take_telemetry) takes it; those that are not requested stay in the ground. Refused only
+    /// with 6 [`Memory`](LinkFault::Memory), and then there are no more; the packet waits.
     pub fn packets(&mut self) -> impl FusedIterator<Item = Result<Vec<u8>, LinkFault>> + '_ {
         one_by_one(|| self.take_telemetry())
     }
 
-    /// A tick of the clock has passed: the alert, if there is one.
+    /// Counts a tick of the clock. Returns the alert, if there is one.
     #[must_use]
     pub fn tick(&mut self) -> Option<Alert> {
         alert_of(raw::sedge_ground_tick(self.0.get()))
     }
 
-    /// The number of segments, of those sent and not acknowledged, that were accepted on board when a report of this
-    /// value was made: the oldest ones (CCSDS 232.1-B-2, 5.1). Where V(S) = NN(R) that is 0, whatever the value. It
-    /// says so after an alert too, until V(S) is set or an initiation begins. `None` if V(S) is not NN(R) and the value
-    /// is beyond V(S): then nothing is known of these segments. A report that was made while frames were on their way
-    /// up says too little for what is sent again (docs/CONTROL.md, "After an alert").
+    /// Returns how many of the segments that were sent and not acknowledged were accepted on board when a CLCW of this
+    /// value was made. They are the oldest ones (CCSDS 232.1-B-2, 5.1). If V(S) = NN(R), the result is 0 for every
+    /// value. If V(S) is not NN(R) and the value is beyond V(S), the result is `None`: then nothing is known of these
+    /// segments. The call works after an alert too, until V(S) is set or an initiation begins. A CLCW that was made
+    /// while frames were in transit on the uplink shows too little for what is retransmitted (docs/CONTROL.md, "After
+    /// an alert").
     #[must_use]
     pub fn accepted_beyond(&self, value: u8) -> Option<u8> {
         let mut accepted = 0;
@@ -365,11 +367,11 @@ impl Ground {
         known.then_some(accepted)
     }
 
-    /// The number of first ones of the session's submissions that are known to be on board whole by a report of this
-    /// value: those that are acknowledged, and those all of whose segments it says were accepted. After an alert too
-    /// (CCSDS 232.1-B-2, 5.1). `None` where nothing is known: no session has begun, V(S) was set since, the session ended
-    /// by an alert that [shows a broken condition](Alert::shows_a_broken_condition), or the value does not lie from NN(R)
-    /// to V(S), which are not equal.
+    /// Returns how many of the session's submissions, from the first on, are known to be on board whole from a CLCW of
+    /// this value (CCSDS 232.1-B-2, 5.1). They are those that are acknowledged, and those whose segments were all
+    /// accepted according to the CLCW. The call works after an alert too. It returns `None` if nothing is known: no
+    /// session has begun, V(S) was set since, the session ended by an alert that [shows a broken
+    /// condition](Alert::shows_a_broken_condition), or V(S) is not NN(R) and the value does not lie from NN(R) to V(S).
     #[must_use]
     pub fn known_on_board(&self, value: u8) -> Option<u64> {
         let mut whole = 0;
@@ -377,40 +379,40 @@ impl Ground {
         known.then_some(whole)
     }
 
-    /// Begins the next session after the alert `Timer`, `Limit` or `Terminated`, where the last one has got to: sets V(S)
-    /// to the value of a report that was made when nothing was on its way up, begins by Unlock (CCSDS 232.1-B-2, 5.2.4),
-    /// and returns the number of first ones of the submissions of the session that ended that are on board whole; those
-    /// after them are to be submitted again. (Of a submission of several packets that do not fit into one segment
-    /// together, some may be on board though it is not counted.) Where V(S) = NN(R) it takes any value: nothing that was
-    /// sent is in doubt.
+    /// Begins the next session after the alert `Timer`, `Limit` or `Terminated`, from where the last one has got to.
+    /// Sets V(S) to the value of a CLCW that was made when nothing was in transit on the uplink, and begins by Unlock
+    /// (CCSDS 232.1-B-2, 5.2.4). Returns how many of the ended session's submissions, from the first on, are on board
+    /// whole; resubmit those after them. (If the packets of a submission do not fit into one segment together, some of
+    /// them may be on board although it is not counted.) If V(S) = NN(R), it takes any value: nothing that was sent is
+    /// in doubt.
     ///
     /// # Errors
     ///
-    /// Refused with 10 [`NotKnown`](LinkFault::NotKnown) alone, where nothing is known of what is on board: the sender is
-    /// not in S6, no session has begun, V(S) was set since, the session ended by an alert that
-    /// [shows a broken condition](Alert::shows_a_broken_condition), or the value does not lie from NN(R) to V(S), which
-    /// are not equal. Nothing has changed then.
+    /// Refused only with 10 [`NotKnown`](LinkFault::NotKnown), if nothing is known of what is on board: the sender is
+    /// not in S6, no session has begun, V(S) was set since, the session ended by an alert that [shows a broken
+    /// condition](Alert::shows_a_broken_condition), or V(S) is not NN(R) and the value does not lie from NN(R) to V(S).
+    /// Nothing has changed then.
     pub fn resume(&mut self, value: u8) -> Result<u64, LinkFault> {
         let mut whole = 0;
         LinkFault::judge(raw::sedge_ground_resume(self.0.get(), value, &mut whole))?;
         Ok(whole)
     }
 
-    /// The number of submissions of the session; they are numbered from 0, in order. This,
-    /// [`sent_whole`](Self::sent_whole) and [`acknowledged_whole`](Self::acknowledged_whole): modulo 2^64, after an alert
-    /// too, and 0 once V(S) is set.
+    /// The number of submissions of the session; they are numbered from 0, in order. This number,
+    /// [`sent_whole`](Self::sent_whole) and [`acknowledged_whole`](Self::acknowledged_whole) are modulo 2^64, also
+    /// after an alert, and 0 once V(S) is set.
     #[must_use]
     pub fn submitted(&self) -> u64 {
         self.read().submitted
     }
 
-    /// The number of first ones of the session's submissions that were sent whole, each to its last segment.
+    /// How many of the session's submissions, from the first on, were sent whole, each to its last segment.
     #[must_use]
     pub fn sent_whole(&self) -> u64 {
         self.read().sent_whole
     }
 
-    /// The number of first ones of the session's submissions that are acknowledged whole, so that they are on board.
+    /// How many of the session's submissions, from the first on, are acknowledged whole, so that they are on board.
     #[must_use]
     pub fn acknowledged_whole(&self) -> u64 {
         self.read().acknowledged_whole
@@ -452,7 +454,7 @@ impl Ground {
         self.read().unsent
     }
 
-    /// The number of segments outstanding that are to be sent again.
+    /// The number of segments outstanding that are to be retransmitted.
     #[must_use]
     pub fn due(&self) -> usize {
         self.read().due
@@ -476,7 +478,7 @@ impl Ground {
         self.read().count
     }
 
-    /// The octets of a telemetry frame.
+    /// The length of a telemetry frame in octets.
     #[must_use]
     pub fn frame_length(&self) -> usize {
         self.read().frame_length

@@ -31,8 +31,8 @@ pub const SEDGE_EVENT_RESUME: u8 = 17;
 faults! {
     /// Why an event does not happen on a simulated link; nothing has changed then.
     SimFault {
-        Memory = 6, "there was no memory";
-        NothingInTransit = 7, "no frame is on its way in this direction";
+        Memory = 6, "out of memory";
+        NothingInTransit = 7, "no frame is in transit in this direction";
         NotDetectable = 8, "the receiver's decoder would accept the octets of the damaged frame";
     }
 }
@@ -75,8 +75,8 @@ impl Record {
     }
 }
 
-/// A simulated link: a ground, a spacecraft of the same configuration, and the frames on their way between them, first
-/// in, first out (docs/PROFILE.md, "The simulated link"). Its memory is given back when it is dropped.
+/// A simulated link: a ground, a spacecraft of the same configuration, and the frames in transit between them, first
+/// in, first out (docs/PROFILE.md, "The simulated link"). Its memory is released when it is dropped.
 ///
 /// ```
 /// use sedgechisel::{Config, Link, Received, Record, SimFault, Verdict};
@@ -104,7 +104,7 @@ impl fmt::Debug for Link {
     }
 }
 
-/// The fault by which a node refuses, or what stands for want of memory.
+/// The fault with which a node refuses, or the one for a lack of memory.
 fn refusal<F>(reply: Result<raw::Reply, SimFault>, of: fn(u8) -> F, memory: F) -> Result<(), F> {
     match reply {
         Ok(reply) if reply.kind == raw::SEDGE_REPLY_REFUSED => Err(of(reply.fault)),
@@ -115,11 +115,11 @@ fn refusal<F>(reply: Result<raw::Reply, SimFault>, of: fn(u8) -> F, memory: F) -
 }
 
 impl Link {
-    /// A link with two new nodes.
+    /// Opens a link with two new nodes.
     ///
     /// # Errors
     ///
-    /// Refused with the first parameter that is out of its range, or for want of memory.
+    /// Refused with the first parameter that is out of range, or if memory runs out.
     pub fn new(config: &Config) -> Result<Self, OpenFault> {
         let mut link = Self(raw::Own::default());
         config.judge(raw::sedge_sim_open(link.0.get(), &config.raw()))?;
@@ -143,8 +143,8 @@ impl Link {
         }
     }
 
-    /// An event that gives a frame or a packet of at most `most` octets; it happens where there is room for them.
-    /// They are returned in room for exactly them, if there is memory for that too.
+    /// An event that returns a frame or a packet of at most `most` octets; it happens if there is room for them. They
+    /// are returned in a buffer of exactly their length, if there is memory for that too.
     fn given(&mut self, most: usize, kind: u8) -> Result<Option<(u8, Vec<u8>)>, SimFault> {
         let mut room = Vec::new();
         room.try_reserve_exact(most).map_err(|_| SimFault::Memory)?;
@@ -160,7 +160,7 @@ impl Link {
 
     directives!();
 
-    /// [`Ground::submit`](crate::Ground::submit).
+    /// Submits packets on the ground, as [`Ground::submit`](crate::Ground::submit) does.
     ///
     /// # Errors
     ///
@@ -170,7 +170,7 @@ impl Link {
         refusal(reply, LinkFault::of, LinkFault::Memory)
     }
 
-    /// [`Ground::bypass`](crate::Ground::bypass).
+    /// Submits a packet on the ground by bypass, as [`Ground::bypass`](crate::Ground::bypass) does.
     ///
     /// # Errors
     ///
@@ -180,7 +180,7 @@ impl Link {
         refusal(reply, LinkFault::of, LinkFault::Memory)
     }
 
-    /// [`Spacecraft::telemetry`](crate::Spacecraft::telemetry).
+    /// Queues a packet on board, as [`Spacecraft::telemetry`](crate::Spacecraft::telemetry) does.
     ///
     /// # Errors
     ///
@@ -190,17 +190,17 @@ impl Link {
         refusal(reply, TmFault::of, TmFault::Memory)
     }
 
-    /// The ground sends a frame, which is on its way up then; or `None`, if nothing is to be sent now.
+    /// Sends a frame from the ground; it is then in transit on the uplink. Returns `None` if nothing is to be sent now.
     ///
     /// # Errors
     ///
-    /// Refused with 6 [`Memory`](SimFault::Memory) alone.
+    /// Refused only with 6 [`Memory`](SimFault::Memory).
     pub fn send(&mut self) -> Result<Option<Vec<u8>>, SimFault> {
         let frame = self.given(TcFrame::LONGEST, SEDGE_EVENT_SEND)?;
         Ok(frame.map(|(_, octets)| octets))
     }
 
-    /// The first frame on its way up arrives.
+    /// Delivers the first frame in transit on the uplink.
     ///
     /// # Errors
     ///
@@ -211,7 +211,7 @@ impl Link {
         Ok(Received::from_raw(&reply.up))
     }
 
-    /// The first frame on its way up is lost.
+    /// Loses the first frame in transit on the uplink.
     ///
     /// # Errors
     ///
@@ -220,7 +220,7 @@ impl Link {
         self.event(SEDGE_EVENT_UP_LOSE, 0, &[]).map(drop)
     }
 
-    /// These octets, which are no frame, arrive in place of the first frame on its way up.
+    /// Delivers these octets, which do not form a valid frame, instead of the first frame in transit on the uplink.
     ///
     /// # Errors
     ///
@@ -231,17 +231,17 @@ impl Link {
         Ok(Received::from_raw(&reply.up))
     }
 
-    /// The spacecraft sends a telemetry frame, which is on its way down then: the report in it.
+    /// Sends a telemetry frame from the spacecraft; it is then in transit on the downlink. Returns the CLCW in it.
     ///
     /// # Errors
     ///
-    /// Refused with 6 [`Memory`](SimFault::Memory) alone.
+    /// Refused only with 6 [`Memory`](SimFault::Memory).
     pub fn report(&mut self) -> Result<Clcw, SimFault> {
         let reply = self.event(SEDGE_EVENT_REPORT, 0, &[])?;
         Ok(Clcw::from_raw(reply.report))
     }
 
-    /// The first frame on its way down arrives.
+    /// Delivers the first frame in transit on the downlink.
     ///
     /// # Errors
     ///
@@ -252,7 +252,7 @@ impl Link {
         Ok(Heard::from_raw(&reply.down))
     }
 
-    /// The first frame on its way down is lost.
+    /// Loses the first frame in transit on the downlink.
     ///
     /// # Errors
     ///
@@ -261,7 +261,7 @@ impl Link {
         self.event(SEDGE_EVENT_DOWN_LOSE, 0, &[]).map(drop)
     }
 
-    /// These octets, which are no frame, arrive in place of the first frame on its way down.
+    /// Delivers these octets, which do not form a valid frame, instead of the first frame in transit on the downlink.
     ///
     /// # Errors
     ///
@@ -272,8 +272,8 @@ impl Link {
         Ok(Heard::from_raw(&reply.down))
     }
 
-    /// The first frame on its way down arrives, and its report alone reaches the ground, as by
-    /// [`Ground::clcw`](crate::Ground::clcw): telemetry is not touched.
+    /// Delivers the first frame in transit on the downlink, but only its CLCW reaches the ground, as by
+    /// [`Ground::clcw`](crate::Ground::clcw); telemetry is not touched.
     ///
     /// # Errors
     ///
@@ -283,7 +283,7 @@ impl Link {
         Ok(HeardClcw::from_raw(&reply.down))
     }
 
-    /// [`Ground::resume`](crate::Ground::resume): a session begins, by Unlock.
+    /// Resumes on the ground, as [`Ground::resume`](crate::Ground::resume) does: a session begins, by Unlock.
     ///
     /// # Errors
     ///
@@ -297,7 +297,7 @@ impl Link {
         }
     }
 
-    /// A tick of the ground's clock passes: the alert, if there is one.
+    /// Counts a tick of the ground's clock. Returns the alert, if there is one.
     #[must_use]
     pub fn tick(&mut self) -> Option<Alert> {
         match self.event(SEDGE_EVENT_TICK, 0, &[]) {
@@ -306,20 +306,20 @@ impl Link {
         }
     }
 
-    /// A packet of sequence-controlled frames is taken on board, with its MAP, if one waits.
+    /// Takes a packet of sequence-controlled frames on board, with its MAP, if one waits.
     ///
     /// # Errors
     ///
-    /// Refused with 6 [`Memory`](SimFault::Memory) alone.
+    /// Refused only with 6 [`Memory`](SimFault::Memory).
     pub fn take(&mut self) -> Result<Option<(u8, Vec<u8>)>, SimFault> {
         self.given(Packet::LONGEST, SEDGE_EVENT_TAKE)
     }
 
-    /// A packet that came past the sequence control is taken on board, with its MAP, if one waits.
+    /// Takes a bypass packet on board, with its MAP, if one waits.
     ///
     /// # Errors
     ///
-    /// Refused with 6 [`Memory`](SimFault::Memory) alone.
+    /// Refused only with 6 [`Memory`](SimFault::Memory).
     pub fn take_bypass(&mut self) -> Result<Option<(u8, Vec<u8>)>, SimFault> {
         self.given(Packet::LONGEST, SEDGE_EVENT_TAKE_BYPASS)
     }
@@ -342,7 +342,7 @@ impl Link {
         self.read().outstanding
     }
 
-    /// How many of the first ones of [`Record::Sent`] the ground holds acknowledged.
+    /// How many entries of [`Record::Sent`], from the first on, the ground counts as acknowledged.
     #[must_use]
     pub fn acknowledged(&self) -> usize {
         self.read().acknowledged
@@ -362,19 +362,19 @@ impl Link {
         }
     }
 
-    /// Whether the session began with nothing on its way, and without a CLCW check only where V(R) was V(S).
+    /// Whether the session began with nothing in transit, and without a CLCW check only if V(R) was V(S).
     #[must_use]
     pub fn is_clean(&self) -> bool {
         self.read().clean
     }
 
-    /// Whether it had an idle start (docs/PROMISES.md).
+    /// Whether the session had an idle start (docs/PROMISES.md).
     #[must_use]
     pub fn is_idle(&self) -> bool {
         self.read().idle
     }
 
-    /// Whether a report has taken the ground from S4 or S5 to S1.
+    /// Whether a CLCW has taken the ground from S4 or S5 to S1.
     #[must_use]
     pub fn is_confirmed(&self) -> bool {
         self.read().confirmed
@@ -404,7 +404,7 @@ impl Link {
         self.read_ground().unsent
     }
 
-    /// The number of segments outstanding that are to be sent again.
+    /// The number of segments outstanding that are to be retransmitted.
     #[must_use]
     pub fn due(&self) -> usize {
         self.read_ground().due
@@ -434,7 +434,7 @@ impl Link {
         read
     }
 
-    /// The report that the next telemetry frame carries.
+    /// The CLCW that the next telemetry frame carries.
     #[must_use]
     pub fn control_word(&self) -> Clcw {
         word_of(self.read_spacecraft())
@@ -452,14 +452,14 @@ impl Link {
         self.read_spacecraft().ready
     }
 
-    /// The number of packets that came past the sequence control and wait there to be taken.
+    /// The number of bypass packets that wait on board to be taken.
     #[must_use]
     pub fn bypass_ready(&self) -> usize {
         self.read_spacecraft().bypassed
     }
 
-    /// What was submitted in the session, in order: the MAP and the octets of each submission, or for one for which
-    /// there is no room 6 [`Memory`](SimFault::Memory).
+    /// What was submitted in the session, in order: the MAP and the octets of each submission, or 6
+    /// [`Memory`](SimFault::Memory) for a submission for which there is no room.
     pub fn submissions(&self) -> impl ExactSizeIterator<Item = Result<(u8, Vec<u8>), SimFault>> + '_ {
         let (mut map, mut count, mut written) = (0, 0, 0);
         (0..self.0.number(|it, count| raw::sedge_sim_submissions(it, count))).map(move |k| {
@@ -470,8 +470,8 @@ impl Link {
         })
     }
 
-    /// The entries of a record of the session, in their order, or for one for which there is no room 6
-    /// [`Memory`](SimFault::Memory).
+    /// The entries of a record of the session, in their order, or 6 [`Memory`](SimFault::Memory) for an entry for which
+    /// there is no room.
     pub fn record(&self, record: Record) -> impl ExactSizeIterator<Item = Result<Vec<u8>, SimFault>> + '_ {
         let (number, map) = record.raw();
         let (mut entries, mut count, mut written) = (0, 0, 0);

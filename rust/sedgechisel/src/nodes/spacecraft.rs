@@ -12,7 +12,7 @@ use core::iter::FusedIterator;
 #[derive(Clone, Copy, Debug, PartialEq, Eq, Hash)]
 #[non_exhaustive]
 pub enum Received {
-    /// They are no telecommand frame.
+    /// They do not form a valid telecommand frame.
     Invalid(TcFault),
     /// A frame of another spacecraft or virtual channel.
     Foreign,
@@ -22,7 +22,7 @@ pub enum Received {
         n: u8,
         /// What the receiver does with it.
         verdict: Verdict,
-        /// The number of packets that came to wait to be taken.
+        /// The number of packets added to those that wait to be taken.
         ready: usize,
         /// Why octets on its MAP were dropped, if some were.
         dropped: Option<Dropped>,
@@ -54,7 +54,7 @@ impl Received {
     }
 }
 
-/// The numbers with which a spacecraft that is restarted on purpose goes on, which the program keeps meanwhile.
+/// The numbers from which a spacecraft continues after a deliberate restart; the program keeps them meanwhile.
 #[derive(Clone, Copy, Debug, Default, PartialEq, Eq, Hash)]
 pub struct KeptNumbers {
     /// V(R), the number of the next frame to be accepted.
@@ -67,7 +67,7 @@ pub struct KeptNumbers {
     pub vc_count: u8,
 }
 
-/// The report in what is read of a spacecraft.
+/// The CLCW in a reading of a spacecraft.
 pub(super) fn word_of(read: raw::SpacecraftReading) -> Clcw {
     Clcw::from_raw(crate::ffi::Clcw {
         status: read.status,
@@ -78,8 +78,8 @@ pub(super) fn word_of(read: raw::SpacecraftReading) -> Clcw {
     })
 }
 
-/// The spacecraft: it receives packets and reports, and sends telemetry (docs/PROFILE.md, "The node on board"). Its memory
-/// is given back when it is dropped.
+/// The spacecraft: it receives packets and reports, and sends telemetry (docs/PROFILE.md, "The node on board"). Its
+/// memory is released when it is dropped.
 ///
 /// ```
 /// use sedgechisel::{Config, Received, Spacecraft, Verdict};
@@ -104,19 +104,19 @@ impl fmt::Debug for Spacecraft {
 }
 
 impl Spacecraft {
-    /// A spacecraft that has received nothing.
+    /// Opens a spacecraft that has received nothing.
     ///
     /// # Errors
     ///
-    /// Refused with the first parameter that is out of its range, or for want of memory.
+    /// Refused with the first parameter that is out of range, or if memory runs out.
     pub fn new(config: &Config) -> Result<Self, OpenFault> {
         let mut spacecraft = Self(raw::Own::default());
         config.judge(raw::sedge_spacecraft_open(spacecraft.0.get(), &config.raw()))?;
         Ok(spacecraft)
     }
 
-    /// A spacecraft that goes on with numbers that [`kept_numbers`](Self::kept_numbers) gave before a restart on
-    /// purpose. Its receiver is Open with no flag, and no packet is on board.
+    /// Opens a spacecraft that continues with numbers that [`kept_numbers`](Self::kept_numbers) returned before a
+    /// deliberate restart. Its receiver is Open with no flag set, and no packet is on board.
     ///
     /// # Errors
     ///
@@ -148,18 +148,18 @@ impl Spacecraft {
         }
     }
 
-    /// The numbers with which [`restarted`](Self::restarted) goes on, as they are now.
+    /// Returns the present numbers with which [`restarted`](Self::restarted) continues.
     #[must_use]
     pub fn kept_numbers(&self) -> KeptNumbers {
         let read = self.read();
         KeptNumbers { vr: read.value, farm_b: read.farm_b, mc_count: read.mc_count, vc_count: read.vc_count }
     }
 
-    /// Octets came from the ground, which are one telecommand frame with its FECF if all is well.
+    /// Takes octets that came from the ground: normally one telecommand frame with its FECF.
     ///
     /// # Errors
     ///
-    /// Refused with 6 [`Memory`](LinkFault::Memory) alone.
+    /// Refused only with 6 [`Memory`](LinkFault::Memory).
     pub fn receive(&mut self, octets: &[u8]) -> Result<Received, LinkFault> {
         let mut received = raw::Received::default();
         in_memory(raw::spacecraft_receive(self.0.get(), octets, &mut received))?;
@@ -170,7 +170,7 @@ impl Spacecraft {
     ///
     /// # Errors
     ///
-    /// Refused with 6 [`Memory`](LinkFault::Memory) alone; the packet waits then.
+    /// Refused only with 6 [`Memory`](LinkFault::Memory); the packet waits then.
     pub fn take(&mut self) -> Result<Option<(u8, Vec<u8>)>, LinkFault> {
         let (mut map, mut count) = (0, 0);
         done(raw::sedge_spacecraft_next(self.0.get(), &mut map, &mut count));
@@ -178,18 +178,18 @@ impl Spacecraft {
         Ok(packet.map(|packet| (map, packet)))
     }
 
-    /// The packets of sequence-controlled frames, each with its MAP, the oldest one first. Each is taken when it is
-    /// asked for, as [`take`](Self::take) takes it; those that are not asked for stay on board. Refused with 6
-    /// [`Memory`](LinkFault::Memory) alone, and then there are no more; the packet waits.
+    /// Returns the packets of sequence-controlled frames, each with its MAP, the oldest one first. Each is taken on
+    /// request, as [`take`](Self::take) takes it; those that are not requested stay on board. Refused only with 6
+    /// [`Memory`](LinkFault::Memory), and then there are no more; the packet waits.
     pub fn packets(&mut self) -> impl FusedIterator<Item = Result<(u8, Vec<u8>), LinkFault>> + '_ {
         one_by_one(|| self.take())
     }
 
-    /// Takes the oldest packet that came past the sequence control, with its MAP, if one is kept.
+    /// Takes the oldest bypass packet, with its MAP, if one is kept.
     ///
     /// # Errors
     ///
-    /// Refused with 6 [`Memory`](LinkFault::Memory) alone; the packet is kept then.
+    /// Refused only with 6 [`Memory`](LinkFault::Memory); the packet is kept then.
     pub fn take_bypass(&mut self) -> Result<Option<(u8, Vec<u8>)>, LinkFault> {
         let (mut map, mut count) = (0, 0);
         done(raw::sedge_spacecraft_next_bypass(self.0.get(), &mut map, &mut count));
@@ -198,9 +198,9 @@ impl Spacecraft {
         Ok(packet.map(|packet| (map, packet)))
     }
 
-    /// The packets that came past the sequence control, each with its MAP, the oldest one first. Each is taken when it
-    /// is asked for, as [`take_bypass`](Self::take_bypass) takes it; those that are not asked for stay on board. Refused
-    /// with 6 [`Memory`](LinkFault::Memory) alone, and then there are no more; the packet waits.
+    /// Returns the bypass packets, each with its MAP, the oldest one first. Each is taken on request, as
+    /// [`take_bypass`](Self::take_bypass) takes it; those that are not requested stay on board. Refused only with 6
+    /// [`Memory`](LinkFault::Memory), and then there are no more; the packet waits.
     pub fn bypass_packets(&mut self) -> impl FusedIterator<Item = Result<(u8, Vec<u8>), LinkFault>> + '_ {
         one_by_one(|| self.take_bypass())
     }
@@ -209,20 +209,20 @@ impl Spacecraft {
     ///
     /// # Errors
     ///
-    /// Refused with 8 [`NotAPacket`](TmFault::NotAPacket) (the octets are not exactly one packet, or an idle packet) or
-    /// 7 [`Memory`](TmFault::Memory).
+    /// Refused with 8 [`NotAPacket`](TmFault::NotAPacket) (the octets are not exactly one packet, or are an idle
+    /// packet) or 7 [`Memory`](TmFault::Memory).
     pub fn telemetry(&mut self, packet: &[u8]) -> Result<(), TmFault> {
         TmFault::judge(raw::spacecraft_telemetry(self.0.get(), packet))
     }
 
-    /// Takes the next telemetry frame, which reports on the receiver, and writes it to the beginning of the room.
+    /// Takes the next telemetry frame, which reports on the receiver, and writes it to the beginning of the buffer.
     pub fn telemetry_frame<'o>(&mut self, room: &'o mut [u8; TmFrame::LONGEST]) -> &'o mut [u8] {
         let mut count = 0;
         done(raw::spacecraft_telemetry_frame(self.0.get(), room, &mut count));
         &mut room[..count]
     }
 
-    /// Takes the next telemetry frame, by the name of this call up to 0.2.
+    /// Takes the next telemetry frame; the name of this call up to 0.2.
     #[deprecated(since = "0.3.0", note = "it is `telemetry_frame` now")]
     pub fn report<'o>(&mut self, room: &'o mut [u8; TmFrame::LONGEST]) -> &'o mut [u8] {
         self.telemetry_frame(room)
@@ -234,7 +234,7 @@ impl Spacecraft {
         read
     }
 
-    /// The report that the next telemetry frame carries.
+    /// The CLCW that the next telemetry frame carries.
     #[must_use]
     pub fn control_word(&self) -> Clcw {
         word_of(self.read())
@@ -252,13 +252,13 @@ impl Spacecraft {
         self.read().ready
     }
 
-    /// The number of packets that came past the sequence control and wait to be taken.
+    /// The number of bypass packets that wait to be taken.
     #[must_use]
     pub fn bypassed(&self) -> usize {
         self.read().bypassed
     }
 
-    /// The octets of a telemetry frame.
+    /// The length of a telemetry frame in octets.
     #[must_use]
     pub fn frame_length(&self) -> usize {
         self.read().frame_length

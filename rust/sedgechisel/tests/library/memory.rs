@@ -62,7 +62,7 @@ impl Trial {
         Twins { tried, plain: make().expect("a configuration in its ranges") }
     }
 
-    /// Gives both a call, which answers alike, and not that there was no memory where none was refused.
+    /// Gives both a call, which answers alike, and not that out of memory where none was refused.
     fn both<N, T: PartialEq + Debug, E: Fault>(
         &mut self, twins: &mut Twins<N>, call: impl Fn(&mut N) -> Result<T, E>,
     ) {
