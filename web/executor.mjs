@@ -75,9 +75,7 @@ export class Executor {
     }
 
     /**
-     * Returns the program's next action, of `action`. The program completes the action and calls `done` before it calls
-     * this again. For a write, out receives the 50 octets of the place; otherwise it does not change. number receives
-     * the number of the command to be executed, or 0 for any other action.
+     * Returns the program's next action. The program completes the action and calls `done` before it calls this again.
      * @returns {Action}
      * @throws {Error} if `done` was not called for the action that it returned last
      */
@@ -93,8 +91,8 @@ export class Executor {
     }
 
     /**
-     * Records that the action that `next` returned, with its number, is complete. Throws an Error, and changes nothing,
-     * if this is another action.
+     * Records that the action that `next` returned last is complete. Throws an Error, and changes nothing, if this is
+     * another action.
      * @param {Action} action one of the kind NOTHING changes nothing
      */
     done(action) {
@@ -106,10 +104,9 @@ export class Executor {
     }
 
     /**
-     * Takes the octets of a packet that arrived if it is the next command, and returns where the mission's octets are
-     * in them. Keep these until the command was executed, after `next` has returned EXECUTE with its number. Throws
-     * LogFault, and changes nothing, for any other packet, which is dropped: 1 Layout, then 2 Check, then 3 Starting, 4
-     * Busy or 5 Lost, then 6 Behind or 7 Ahead.
+     * Takes the octets of a packet that arrived if it is the next command, and returns the mission's octets in them.
+     * Throws LogFault, and changes nothing, for any other packet, which is dropped: 1 Layout, then 2 Check, then 3
+     * Starting, 4 Busy or 5 Lost, then 6 Behind or 7 Ahead.
      * @param {Uint8Array} octets
      * @returns {Uint8Array}
      */

@@ -365,8 +365,7 @@ export class Ground extends Directing {
     }
 
     /**
-     * Takes the next frame for the link, with its FECF (232.0-B-4, 4.1). Returns it and the number of its octets, or 0
-     * octets if nothing is to be sent.
+     * Takes the next frame for the link, with its FECF (232.0-B-4, 4.1). Returns it, or null if nothing is to be sent.
      * @returns {Uint8Array | null}
      */
     pull() {
@@ -470,8 +469,7 @@ export class Ground extends Directing {
     }
 
     /**
-     * Takes the oldest telemetry packet (132.0-B-3, 4.3.2). Returns it and the number of its octets, or 0 octets if
-     * none waits.
+     * Takes the oldest telemetry packet (132.0-B-3, 4.3.2). Returns it, or null if none waits.
      * @returns {Uint8Array | null}
      */
     takeTelemetry() {
@@ -712,8 +710,8 @@ export class Spacecraft extends Handle {
     }
 
     /**
-     * Takes the oldest packet of sequence-controlled frames (232.0-B-4, 4.4). Returns its MAP and the packet; or only 0
-     * octets if none waits.
+     * Takes the oldest packet of sequence-controlled frames (232.0-B-4, 4.4). Returns its MAP and the packet, or null
+     * if none waits.
      * @returns {OnMap | null}
      */
     take() {

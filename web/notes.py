@@ -26,24 +26,25 @@ RENAMED = {("Spacecraft", "mode"): "state"}
 FIELD_SAID = (
     (r"^([Tt]he (?:.*? state|state of .*?)), of sedge_\w+", r"\1"),
     (r"^[Oo]f telemetry, in octets", "the length of a telemetry frame, in octets"),
-    (r"^[Ii]t (?=began|had)", "whether the session "),
-    (r"^[Aa] report (?=has taken)", "whether a CLCW "),
+    (r"^[Tt]he session (?=began|had)", "whether the session "),
+    (r"^[Aa] CLCW (?=has taken)", "whether a CLCW "),
 )
 # What C says, and what a class says: octets and numbers are returned, a fault is thrown, and null is nothing.
 SAID = (
-    (r", of sedge_log_action: it", ": it"),
-    (r" For a write, out gets .*? for any other action\.", ""),
+    (r", of sedge_log_action(?=\.)", ""),
+    (r" For a write, out receives .*? for any other action\.", ""),
     (r" (?:Or returns|Returns 0, or) the first of SEDGE_WRONG_COUNT[^.]*\.", ""),
-    (r"returned, with its number, was done", "returned last was done"),
+    (r"returned, with its number, is complete", "returned last is complete"),
     (r"Returns 0; or it changes nothing and returns the first of SEDGE_DAMAGED and SEDGE_ABSENT, if .*",
      "Throws an Error, and changes nothing, if this is another action."),
-    (r"and writes where (the mission's octets) are in them: keep [^.]*\.", r"and returns \1 in them."),
+    (r"and writes where (the mission's octets) are in them\. Keep [^.]*\.", r"and returns \1 in them."),
     (r"Returns 0; or it changes (?:and writes )?nothing, the packet is dropped, and [^:]* of sedge_log_fault:",
      "Throws LogFault, and changes nothing, for any other packet, which is dropped:"),
     (r"SEDGE_LOG_(\w+)", r"\1"),
     (r"(\w+), (the \w+), and the number of its octets", r"\1 and \2"),
     (r", and the number of its octets, which is frame_length", ": `frameLength` octets"),
-    (r"(?:, and the number of its octets)?; or 0 octets(?: alone)? where", "; or null where"),
+    (r"it and the number of its octets, or 0 octets if", "it, or null if"),
+    (r"; or only 0 octets if", ", or null if"),
     (r", of sedge_alert, SEDGE_NO_ALERT for none", ", or null for none"),
     (r"\b(W|w)rites\b", lambda it: {"W": "Returns", "w": "returns"}[it[1]]),
     (r" or SEDGE_NODE_ROOM(?=\.)", ""),
@@ -51,9 +52,6 @@ SAID = (
     (r"Returns 0, or (?=[^.]*(?:SEDGE_(?:NODE_MEMORY|TM_)|of sedge_node_status))", "Throws "),
     (r"(\d to \d) of sedge_node_status", r"LinkFault \1"),
     (r" ?Returns 0\.", ""),
-    (r"\bfirst ones of (?:them|the (?:session's )?submissions)", "first submissions of the session"),
-    (r"(?<!the )\bfirst ones\b", "first submissions of the session"),
-    (r"\bof them (?=wait|are to be)", "of the outstanding segments "),
 )
 ABSENT = r"Returns 0, or SEDGE_NODE_ABSENT(?= if| where)"
 
@@ -82,11 +80,17 @@ def numbered(known):
     return put
 
 
-def translated(text, known, is_nullable):
+def replaced(text, phrases, found):
+    """The text with these phrases replaced; those that it contains are added to a set."""
+    for words, other in phrases:
+        text, count = re.subn(words, other, text)
+        found |= {words} if count else set()
+    return text
+
+
+def translated(text, known, is_nullable, found):
     """A comment in the words of a class; it says null of what may be absent, and nothing where a method throws then."""
-    text = text.replace("`", "")
-    for words, other in SAID:
-        text = re.sub(words, other, text)
+    text = replaced(text.replace("`", ""), SAID, found)
     text = re.sub(ABSENT, "Returns null", text) if is_nullable else re.sub(rf" ?{ABSENT}[^.]*\.", "", text)
     text = re.sub(r"SEDGE_(NODE|TM|SIM|COP)_(\w+)", numbered(known), text)
     text = re.sub(
@@ -98,10 +102,10 @@ def translated(text, known, is_nullable):
 def event_note(note, name):
     """What happens by an event, as a sentence."""
     note = re.sub(r": (?:map|octets|directive|value).*", "", note)
-    frame = f"the first frame on its way {name.split('_')[0].lower()}"
+    frame = f"the first frame in transit on the {name.split('_')[0].lower()}link"
     note = re.sub(r"^it is lost", f"{frame} is lost", note)
     note = re.sub(r"^these arrive in its place, which are no frame",
-                  f"these octets, which are no frame, arrive in place of {frame}", note)
+                  f"these octets, which must not form a valid frame, arrive instead of {frame}", note)
     return sentence(note)
 
 
@@ -114,6 +118,7 @@ class Notes:
 
     def __init__(self, known):
         self.known, self.calls, self.fields = known, call_notes(), field_notes()
+        self.found = set()
         headers = "".join(text_of(it) for it in HEADERS)
         events = meanings(headers)["event_kind"]
         self.events = {name.removeprefix("SEDGE_EVENT_"): events[number] for name, number in known.items()
@@ -125,9 +130,12 @@ class Notes:
         """The note of a field as a getter has it; nothing where it names only an enumeration, or is another node's."""
         if note.startswith(("of sedge_", "Of sedge_")) or (owner, member) == ("Link", "mode"):
             return None
-        for words, other in FIELD_SAID:
-            note = re.sub(words, other, note)
-        return sentence(translated(note, self.known, False))
+        note = replaced(note, FIELD_SAID, self.found)
+        return sentence(translated(note, self.known, False, self.found))
+
+    def missed(self):
+        """The phrases that no comment contains any more, so that they replace nothing."""
+        return [words for words, _ in (*FIELD_SAID, *SAID) if words not in self.found]
 
     def of(self, owner, member, is_getter, is_nullable):
         """The text of a member; nothing where it has its own."""
@@ -143,7 +151,7 @@ class Notes:
         if owner == "Link" and name.upper() in self.events:
             return event_note(self.events[name.upper()], name)
         call = self.calls.get(f"sedge_{beginning}_{name}")
-        return call and translated(call, self.known, is_nullable)
+        return call and translated(call, self.known, is_nullable, self.found)
 
 
 def block(indent, lines):

@@ -110,7 +110,7 @@ export class Link extends Directing {
     }
 
     /**
-     * The first frame on its way up is lost.
+     * The first frame in transit on the uplink is lost.
      * @throws {SimFault} 7 (NothingInTransit)
      */
     upLose() {
@@ -118,7 +118,7 @@ export class Link extends Directing {
     }
 
     /**
-     * These octets, which are no frame, arrive in place of the first frame on its way up.
+     * These octets, which must not form a valid frame, arrive instead of the first frame in transit on the uplink.
      * @param {Uint8Array} octets
      * @returns {Received}
      * @throws {SimFault} 7 (NothingInTransit), or 8 (NotDetectable) if the octets are a valid frame
@@ -145,7 +145,7 @@ export class Link extends Directing {
     }
 
     /**
-     * The first frame on its way down is lost.
+     * The first frame in transit on the downlink is lost.
      * @throws {SimFault} 7 (NothingInTransit)
      */
     downLose() {
@@ -153,7 +153,7 @@ export class Link extends Directing {
     }
 
     /**
-     * These octets, which are no frame, arrive in place of the first frame on its way down.
+     * These octets, which must not form a valid frame, arrive instead of the first frame in transit on the downlink.
      * @param {Uint8Array} octets
      * @returns {Heard}
      * @throws {SimFault} 7 (NothingInTransit), or 8 (NotDetectable) if the octets are a valid frame
@@ -261,7 +261,7 @@ export class Link extends Directing {
     }
 
     /**
-     * The session began with nothing in transit, and without a CLCW check only if V(R) was V(S).
+     * Whether the session began with nothing in transit, and without a CLCW check only if V(R) was V(S).
      * @returns {boolean}
      */
     get clean() {
@@ -269,7 +269,7 @@ export class Link extends Directing {
     }
 
     /**
-     * The session had an idle start (docs/PROMISES.md).
+     * Whether the session had an idle start (docs/PROMISES.md).
      * @returns {boolean}
      */
     get idle() {
@@ -277,7 +277,7 @@ export class Link extends Directing {
     }
 
     /**
-     * A CLCW has taken the ground from S4 or S5 to S1.
+     * Whether a CLCW has taken the ground from S4 or S5 to S1.
      * @returns {boolean}
      */
     get confirmed() {
