@@ -16,7 +16,7 @@ export function newRecord(): Uint8Array;
  */
 export function commandPacket(apid: number, count: number, number: number, content: Uint8Array): Uint8Array;
 /**
- * Returns the order, a packet, that the board with this boot count restarts.
+ * Returns the packet of an order that restarts the board with this boot count.
  * @param {number} apid
  * @param {number} count
  * @param {number} boot
@@ -25,8 +25,8 @@ export function commandPacket(apid: number, count: number, number: number, conte
  */
 export function restartOrder(apid: number, count: number, boot: number): Uint8Array;
 /**
- * Returns the order, a packet, that brings a record to the board that has lost its own, with this mark: its boot count
- * and its last number.
+ * Returns the packet of an order that brings a record to the board that has lost its own, with this mark. The record
+ * has this boot count and this last number.
  * @param {number} apid
  * @param {number} count
  * @param {number} mark
@@ -37,14 +37,14 @@ export function restartOrder(apid: number, count: number, boot: number): Uint8Ar
  */
 export function rebuildOrder(apid: number, count: number, mark: number, boot: number, last: number): Uint8Array;
 /**
- * Returns the history after one command packet more: CRC-32 continued over the last four octets of the packet. The
- * history of no packets is 0. A ground compares that of the packets that it sent with the history of a status.
+ * Returns the history after one more command packet: CRC-32 continued over the last four octets of the packet. The
+ * history of no packets is 0. A ground compares the history of the packets that it sent with the history in a status.
  * @param {number} history
  * @param {Uint8Array} packet
  * @returns {number}
  */
 export function historyAfter(history: number, packet: Uint8Array): number;
-/** What `Executor.next` returns: the program does it, whole, and passes it to `done`. */
+/** What `Executor.next` returns: the program completes the action, and passes it to `done`. */
 export class Action {
     /**
      * @param {ActionKind} kind
@@ -75,15 +75,16 @@ export class Action {
     readonly content: Uint8Array;
 }
 /** Decides on board which command is executed next: each once and in order, over restarts at any moment. It does no
- * input or output. The program does what `next` returns, whole, and calls `done`, before it calls `next` again. */
+ * input or output. The program completes the action that `next` returns, and calls `done`, before it calls `next`
+ * again. */
 export class Executor {
     /**
-     * Starts with the octets at the two places of a memory that survives restarts, empty for a place that cannot be
-     * read. A new board has `newRecord()` at both places.
+     * Starts with the octets at the two places in memory that survives restarts; pass no octets for a place that cannot
+     * be read. A new board has `newRecord()` at both places.
      * @param {Uint8Array} first
      * @param {Uint8Array} second
-     * @param {number} mark another one at each start, from a clock or at random: if neither place has a record, it is
-     * the mark of this loss
+     * @param {number} mark must differ at each start, and comes from a clock or is random: if neither place has a record,
+     * it is the mark of this loss
      */
     constructor(first: Uint8Array, second: Uint8Array, mark: number);
     /**
@@ -95,7 +96,7 @@ export class Executor {
     /**
      * Records that the action that `next` returned last is complete. Throws an Error, and changes nothing, if this is
      * another action.
-     * @param {Action} action one of the kind NOTHING changes nothing
+     * @param {Action} action an action of the kind NOTHING changes nothing
      */
     done(action: Action): void;
     /**
@@ -134,8 +135,8 @@ export class BoardStatus {
     static decode(octets: Uint8Array): BoardStatus;
     /** @param {Partial<import('./sedgechisel.mjs').sedge_board_status>} it as the library writes it */
     constructor({ kind, kept, mark, waiting }: Partial<import('./sedgechisel.mjs').sedge_board_status>);
-    /** What it states: the record, that it is being written (CHANGES) or that the board has just started (STARTS),
-     * so that the previous status holds, or that the record is lost. */
+    /** What the status states: the record (SAYS); that the record is being written (CHANGES) or that the board has
+     * just started (STARTS), and the previous status then holds; or that the record is lost (LOST). */
     kind: import("./meanings.mjs").StatusKind;
     /** How often the board has started. */
     boot: number;

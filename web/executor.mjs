@@ -19,7 +19,7 @@ function judge(answer) {
     if (answer !== 0) throw new LogFault(answer);
 }
 
-/** What `Executor.next` returns: the program does it, whole, and passes it to `done`. */
+/** What `Executor.next` returns: the program completes the action, and passes it to `done`. */
 export class Action {
     /**
      * @param {ActionKind} kind
@@ -53,7 +53,8 @@ export class Action {
 }
 
 /** Decides on board which command is executed next: each once and in order, over restarts at any moment. It does no
- * input or output. The program does what `next` returns, whole, and calls `done`, before it calls `next` again. */
+ * input or output. The program completes the action that `next` returns, and calls `done`, before it calls `next`
+ * again. */
 export class Executor {
     /** @type {Partial<import('./sedgechisel.mjs').sedge_log>} */
     #log = {};
@@ -63,12 +64,12 @@ export class Executor {
     #answer = 0;
 
     /**
-     * Starts with the octets at the two places of a memory that survives restarts, empty for a place that cannot be
-     * read. A new board has `newRecord()` at both places.
+     * Starts with the octets at the two places in memory that survives restarts; pass no octets for a place that cannot
+     * be read. A new board has `newRecord()` at both places.
      * @param {Uint8Array} first
      * @param {Uint8Array} second
-     * @param {number} mark another one at each start, from a clock or at random: if neither place has a record, it is
-     * the mark of this loss
+     * @param {number} mark must differ at each start, and comes from a clock or is random: if neither place has a record,
+     * it is the mark of this loss
      */
     constructor(first, second, mark) {
         sedge().sedge_log_start(this.#log, first, second, mark);
@@ -93,7 +94,7 @@ export class Executor {
     /**
      * Records that the action that `next` returned last is complete. Throws an Error, and changes nothing, if this is
      * another action.
-     * @param {Action} action one of the kind NOTHING changes nothing
+     * @param {Action} action an action of the kind NOTHING changes nothing
      */
     done(action) {
         if (!(action instanceof Action)) throw new TypeError('action: this is not an Action');
@@ -158,8 +159,8 @@ export class BoardStatus {
     /** @param {Partial<import('./sedgechisel.mjs').sedge_board_status>} it as the library writes it */
     constructor({ kind = 0, kept, mark = 0, waiting = 0 }) {
         const { boot = 0, last = 0, known = 0n, history = 0, begun = 0 } = kept ?? {};
-        /** What it states: the record, that it is being written (CHANGES) or that the board has just started (STARTS),
-         * so that the previous status holds, or that the record is lost. */
+        /** What the status states: the record (SAYS); that the record is being written (CHANGES) or that the board has
+         * just started (STARTS), and the previous status then holds; or that the record is lost (LOST). */
         this.kind = members.log_status_kind[kind];
         /** How often the board has started. */
         this.boot = boot;
@@ -221,7 +222,7 @@ function order(apid, count, it) {
 }
 
 /**
- * Returns the order, a packet, that the board with this boot count restarts.
+ * Returns the packet of an order that restarts the board with this boot count.
  * @param {number} apid
  * @param {number} count
  * @param {number} boot
@@ -233,8 +234,8 @@ export function restartOrder(apid, count, boot) {
 }
 
 /**
- * Returns the order, a packet, that brings a record to the board that has lost its own, with this mark: its boot count
- * and its last number.
+ * Returns the packet of an order that brings a record to the board that has lost its own, with this mark. The record
+ * has this boot count and this last number.
  * @param {number} apid
  * @param {number} count
  * @param {number} mark
@@ -248,8 +249,8 @@ export function rebuildOrder(apid, count, mark, boot, last) {
 }
 
 /**
- * Returns the history after one command packet more: CRC-32 continued over the last four octets of the packet. The
- * history of no packets is 0. A ground compares that of the packets that it sent with the history of a status.
+ * Returns the history after one more command packet: CRC-32 continued over the last four octets of the packet. The
+ * history of no packets is 0. A ground compares the history of the packets that it sent with the history in a status.
  * @param {number} history
  * @param {Uint8Array} packet
  * @returns {number}

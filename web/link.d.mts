@@ -9,19 +9,20 @@
  */
 export function digitsOf(octets: Uint8Array): string;
 /**
- * The octets of hexadecimal digits, or of '-', which are none; null for anything else.
+ * Returns the octets of hexadecimal digits, no octets for '-', or null for anything else.
  * @param {string} digits
  * @returns {Uint8Array | null}
  */
 export function octetsOf(digits: string): Uint8Array | null;
 /**
- * The event of a line; null if it is unreadable.
+ * Returns the event of a script line, or null if the line is unreadable.
  * @param {string} line
  * @returns {Event | null}
  */
 export function eventOf(line: string): Event | null;
 /**
- * A script: its managed parameters, and its lines with their events. An Error names a line that is unreadable.
+ * Reads a script. Returns its managed parameters, and its lines with their events. Throws an Error that names a line if
+ * it is unreadable.
  * @param {string} text
  * @returns {{ config: sedge_config, events: { line: string, event: Event }[] }}
  */
@@ -51,12 +52,12 @@ export class Link {
     reply: any;
     close(): void;
     /**
-     * An event happens. Returns its line; what it answered stays in `reply`.
+     * Lets an event happen. Returns the line that answers it; the link's answer stays in `reply`.
      * @param {Event} event
      * @returns {string}
      */
     answer(event: Event): string;
-    /** The octets of the frame or the packet that the last event had. */
+    /** Returns the octets of the last event's frame or packet. */
     octets(): Uint8Array;
     /**
      * @param {Reply} it
@@ -64,7 +65,7 @@ export class Link {
      */
     lineOf(it: Reply): string;
     /**
-     * What became of a CLCW by itself.
+     * Returns the line for a CLCW that arrived by itself.
      * @param {import('./sedgechisel.mjs').sedge_heard} it
      */
     wordLine(it: import('./sedgechisel.mjs').sedge_heard): string;
@@ -73,14 +74,14 @@ export class Link {
     /** @param {import('./sedgechisel.mjs').sedge_heard} it */
     heardLine(it: import('./sedgechisel.mjs').sedge_heard): string;
     /**
-     * How many entries a record has on a MAP.
+     * Returns how many entries a record has on a MAP.
      * @param {number} record
      * @param {number} map
      * @returns {number}
      */
     count(record: number, map: number): number;
-    /** What the link is like: the fields of sedge_sim_reading, and how many packets were submitted and delivered, and how
-     * many frames were sent and accepted. */
+    /** Reads the link. Returns the fields of sedge_sim_reading, how many packets were submitted and delivered, and how many
+     * frames were sent and accepted. */
     read(): import("./sedgechisel.mjs").sedge_sim_reading & Record<string, number>;
     show(): string;
 }

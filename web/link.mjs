@@ -23,7 +23,7 @@ export function digitsOf(octets) {
 }
 
 /**
- * The octets of hexadecimal digits, or of '-', which are none; null for anything else.
+ * Returns the octets of hexadecimal digits, no octets for '-', or null for anything else.
  * @param {string} digits
  * @returns {Uint8Array | null}
  */
@@ -45,7 +45,7 @@ function numberOf(digits, most) {
 }
 
 /**
- * The event of a line; null if it is unreadable.
+ * Returns the event of a script line, or null if the line is unreadable.
  * @param {string} line
  * @returns {Event | null}
  */
@@ -64,7 +64,8 @@ export function eventOf(line) {
 }
 
 /**
- * A script: its managed parameters, and its lines with their events. An Error names a line that is unreadable.
+ * Reads a script. Returns its managed parameters, and its lines with their events. Throws an Error that names a line if
+ * it is unreadable.
  * @param {string} text
  * @returns {{ config: sedge_config, events: { line: string, event: Event }[] }}
  */
@@ -109,7 +110,7 @@ export class Link {
     }
 
     /**
-     * An event happens. Returns its line; what it answered stays in `reply`.
+     * Lets an event happen. Returns the line that answers it; the link's answer stays in `reply`.
      * @param {Event} event
      * @returns {string}
      */
@@ -120,7 +121,7 @@ export class Link {
         return fault !== 0 ? `refused ${fault} ${this.calls.sedge_sim_fault_name(fault)}` : this.lineOf(this.reply);
     }
 
-    /** The octets of the frame or the packet that the last event had. */
+    /** Returns the octets of the last event's frame or packet. */
     octets() {
         const out = new Uint8Array(this.reply.count), count = {};
         this.calls.sedge_sim_octets(this.sim, out, count);
@@ -153,7 +154,7 @@ export class Link {
     }
 
     /**
-     * What became of a CLCW by itself.
+     * Returns the line for a CLCW that arrived by itself.
      * @param {import('./sedgechisel.mjs').sedge_heard} it
      */
     wordLine(it) {
@@ -185,7 +186,7 @@ export class Link {
     }
 
     /**
-     * How many entries a record has on a MAP.
+     * Returns how many entries a record has on a MAP.
      * @param {number} record
      * @param {number} map
      * @returns {number}
@@ -196,8 +197,8 @@ export class Link {
         return entries.value;
     }
 
-    /** What the link is like: the fields of sedge_sim_reading, and how many packets were submitted and delivered, and how
-     * many frames were sent and accepted. */
+    /** Reads the link. Returns the fields of sedge_sim_reading, how many packets were submitted and delivered, and how many
+     * frames were sent and accepted. */
     read() {
         /** @type {import('./sedgechisel.mjs').sedge_sim_reading & Record<string, number>} */
         const it = /** @type {any} */ ({ submitted: 0, delivered: 0 });

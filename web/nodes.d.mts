@@ -1,13 +1,14 @@
 // Made by web/types of web/nodes.mjs.
 /**
- * Loads the module, once, before the first node. Without a source it is sedgechisel.wasm next to this file.
+ * Loads the module. Call this once, before you create the first node. Without a source it loads sedgechisel.wasm next to
+ * this file.
  * @param {BufferSource | WebAssembly.Module} [source]
  * @returns {Promise<import('./sedgechisel.mjs').Calls>} the calls of the headers, which the classes use
  */
 export function load(source?: BufferSource | WebAssembly.Module | undefined): Promise<import('./sedgechisel.mjs').Calls>;
 declare const Handle_base: new () => import("./meanings.mjs").Closing;
 /** What the nodes share. A node is closed by `close`, at the end of a `using` block, or after nothing refers to it any
- * more; each later call throws an Error. */
+ * more. Every later call throws an Error. */
 export class Handle extends Handle_base {
     /**
      * @param {Partial<Config>} given
@@ -110,7 +111,7 @@ export class Ground extends Directing {
      * @param {Partial<Config>} [config]
      * @param {Partial<KeptGround>} [kept]
      * @throws {ConfigFault} if a parameter is out of range
-     * @throws {RangeError} for a record that no ground of this configuration gives
+     * @throws {RangeError} for a record that no ground of this configuration can have written
      * @throws {LinkFault} 6 (Memory)
      */
     constructor(config?: Partial<import("./meanings.mjs").Config> | undefined, kept?: Partial<KeptGround> | undefined);
@@ -132,7 +133,8 @@ export class Ground extends Directing {
      */
     submit(map: number, packets: Uint8Array): number;
     /**
-     * Submits packets as `submit` does, but a full queue is flow control and no fault. Nothing has changed then.
+     * Submits packets as `submit` does, but throws nothing if the queue is full, which is flow control and not an error.
+     * Nothing has changed then.
      * @param {number} map
      * @param {Uint8Array} packets
      * @returns {number | null} the number of this submission, or null if the queue has no room for them now
@@ -419,9 +421,9 @@ export type OnMap = {
     packet: Uint8Array;
 };
 /**
- * What is kept of a ground, from which another one continues: how many submissions are `acknowledged` whole, V(S), NN(R),
- * whether these are `known` to be a session's, and of each further submission that was sent whole, how many of its
- * `segments` are not acknowledged.
+ * The record of a ground, from which another one can continue: how many submissions are `acknowledged` whole, V(S), NN(R),
+ * whether these are `known` (a session's numbers, and no alert has shown a broken condition), and for each further
+ * submission that was sent whole, how many of its `segments` are not acknowledged.
  */
 export type KeptGround = {
     acknowledged: number;

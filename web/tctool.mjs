@@ -1,9 +1,9 @@
 // The command tctool as a module that web/build_tctool makes.
 
 /**
- * What the command requires of its system. It opens, reads and writes as POSIX does: `open` returns a number from 3 on, `read`
- * and `write` return how many octets they read or wrote, and each returns minus the error as Linux numbers it, or -1, if it
- * fails. `end`, if there is one, returns how many octets a file has, or -1 if that is not known. Files 0, 1 and 2 are open.
+ * What the command requires of its system. The calls resemble those of POSIX: `open` returns a file number from 3 on, and
+ * `read` and `write` return how many octets they read or wrote. A call that fails returns minus the Linux error number, or
+ * -1. `end`, if there is one, returns how many octets a file has, or -1 if that is not known. Files 0, 1 and 2 are open.
  * @typedef {{
  *     open(name: Uint8Array): number,
  *     read(file: number, room: Uint8Array): number,
@@ -13,11 +13,11 @@
  */
 
 /**
- * Runs the command, `run(module, ['farm', 'capture.bin'], system)`. What the system throws ends it.
+ * Runs the command: `run(module, ['farm', 'capture.bin'], system)`. An exception that the system throws ends it.
  * @param {WebAssembly.Module} module
- * @param {(string | Uint8Array)[]} words its arguments, as texts or octets
+ * @param {(string | Uint8Array)[]} words the command's arguments, as texts or octets
  * @param {System} system
- * @returns {number} its status
+ * @returns {number} the exit status
  */
 export function run(module, words, system) {
     const text = new TextEncoder();

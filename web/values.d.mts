@@ -2,18 +2,18 @@
 /** @param {Calls} calls */
 export function use(calls: Calls): void;
 /**
- * The calls of the module that `load` has loaded.
+ * Returns the calls of the module that `load` has loaded.
  * @returns {Calls}
  */
 export function sedge(): Calls;
 /**
- * A name of C as JavaScript has it.
+ * Returns the name in JavaScript for a name in C.
  * @param {string} name
  * @returns {string}
  */
 export function camel(name: string): string;
 /**
- * A count of 64 bits as a number, which is exact.
+ * Returns a count of 64 bits as a number. Throws a RangeError for one that a number cannot represent exactly.
  * @param {bigint | undefined} count
  * @returns {number}
  */
@@ -24,7 +24,7 @@ export function countOf(count?: bigint | undefined): number;
  */
 export function alertOf(number: number): Alert | null;
 /**
- * The CLCW of a struct that has its fields.
+ * Returns the CLCW with the fields of a struct.
  * @param {Partial<import('./sedgechisel.mjs').sedge_clcw>} it
  * @returns {Clcw}
  */
@@ -57,7 +57,7 @@ export function receivedOf(it: Partial<import('./sedgechisel.mjs').sedge_receive
  * @returns {Heard}
  */
 export function heardOf(it: Partial<import('./sedgechisel.mjs').sedge_heard>, ocf?: Uint8Array | undefined): Heard;
-/** What the library refuses: its `number` and `name`, as in the C headers, and its `meaning`. Its message has all three. */
+/** A refusal by the library: its `number` and `name`, as in the C headers, and its `meaning`. The message contains all three. */
 export class Fault extends Error {
     /**
      * @param {number} number
@@ -78,12 +78,12 @@ export class CopFault extends Fault {
     /** @param {number} number */
     constructor(number: number);
 }
-/** Why octets are no telecommand frame (232.0-B-4). */
+/** Why octets do not form a valid telecommand frame (232.0-B-4). */
 export class TcFault extends Fault {
     /** @param {number} number */
     constructor(number: number);
 }
-/** Why octets are no telemetry frame (132.0-B-3). */
+/** Why octets do not form a valid telemetry frame (132.0-B-3). */
 export class TmFault extends Fault {
     /** @param {number} number */
     constructor(number: number);
@@ -146,7 +146,7 @@ export class Clcw {
     } | undefined);
     /** The status field, 3 bits, which is carried and not interpreted. */
     status: number;
-    /** The virtual channel that it reports on. */
+    /** The virtual channel that the CLCW reports on. */
     vcid: number;
     /** The flags, as bits. */
     flags: number;
@@ -160,7 +160,7 @@ export class Clcw {
      * @throws {ClcwFault} 5 (Range)
      */
     encode(): Uint8Array;
-    /** Whether frames have to be retransmitted, from the report value on. */
+    /** Whether frames must be retransmitted, from the report value on. */
     get retransmit(): boolean;
     /** Whether there is no room for a further frame. */
     get wait(): boolean;

@@ -17,7 +17,7 @@ export function use(calls) {
 }
 
 /**
- * The calls of the module that `load` has loaded.
+ * Returns the calls of the module that `load` has loaded.
  * @returns {Calls}
  */
 export function sedge() {
@@ -26,7 +26,7 @@ export function sedge() {
 }
 
 /**
- * A name of C as JavaScript has it.
+ * Returns the name in JavaScript for a name in C.
  * @param {string} name
  * @returns {string}
  */
@@ -35,7 +35,7 @@ export function camel(name) {
 }
 
 /**
- * A count of 64 bits as a number, which is exact.
+ * Returns a count of 64 bits as a number. Throws a RangeError for one that a number cannot represent exactly.
  * @param {bigint | undefined} count
  * @returns {number}
  */
@@ -46,7 +46,7 @@ export function countOf(count = 0n) {
 
 // ---- Faults. ----
 
-/** What the library refuses: its `number` and `name`, as in the C headers, and its `meaning`. Its message has all three. */
+/** A refusal by the library: its `number` and `name`, as in the C headers, and its `meaning`. The message contains all three. */
 export class Fault extends Error {
     /**
      * @param {number} number
@@ -77,7 +77,7 @@ export class CopFault extends Fault {
     }
 }
 
-/** Why octets are no telecommand frame (232.0-B-4). */
+/** Why octets do not form a valid telecommand frame (232.0-B-4). */
 export class TcFault extends Fault {
     /** @param {number} number */
     constructor(number) {
@@ -85,7 +85,7 @@ export class TcFault extends Fault {
     }
 }
 
-/** Why octets are no telemetry frame (132.0-B-3). */
+/** Why octets do not form a valid telemetry frame (132.0-B-3). */
 export class TmFault extends Fault {
     /** @param {number} number */
     constructor(number) {
@@ -180,7 +180,7 @@ export class Clcw {
         const { status = 0, vcid = 0, flags = 0, farmB = 0, value = 0 } = fields;
         /** The status field, 3 bits, which is carried and not interpreted. */
         this.status = status;
-        /** The virtual channel that it reports on. */
+        /** The virtual channel that the CLCW reports on. */
         this.vcid = vcid;
         /** The flags, as bits. */
         this.flags = flags;
@@ -215,7 +215,7 @@ export class Clcw {
         return out;
     }
 
-    /** Whether frames have to be retransmitted, from the report value on. */
+    /** Whether frames must be retransmitted, from the report value on. */
     get retransmit() {
         return (this.flags & FLAGS.retransmit) !== 0;
     }
@@ -242,7 +242,7 @@ export class Clcw {
 }
 
 /**
- * The CLCW of a struct that has its fields.
+ * Returns the CLCW with the fields of a struct.
  * @param {Partial<import('./sedgechisel.mjs').sedge_clcw>} it
  * @returns {Clcw}
  */
