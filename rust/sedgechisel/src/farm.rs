@@ -88,7 +88,7 @@ pub struct FarmFields {
 }
 
 /// The receiver FARM-1 of one virtual channel (CCSDS 232.1-B-2, section 6). Pass it only the frames of its own
-/// spacecraft and channel; no call here can check whose a frame is.
+/// spacecraft and channel: no call here sees which ones a frame belongs to.
 #[derive(Clone, Debug, PartialEq, Eq)]
 pub struct Farm(ffi::Farm);
 
@@ -182,7 +182,7 @@ impl Farm {
         Ok(Clcw::from_raw(word))
     }
 
-    /// Returns the CLCW; the name of this call up to 0.2.
+    /// Returns the CLCW. This is the old name of [`control_word`](Farm::control_word), up to 0.2.
     #[deprecated(since = "0.3.0", note = "it is `control_word` now")]
     #[allow(clippy::missing_errors_doc)]
     pub fn report(&self, vcid: u8) -> Result<Clcw, ClcwFault> {

@@ -26,8 +26,8 @@ numbers! {
 }
 
 reasons! {
-    /// Why the sender has given up (CCSDS 232.1-B-2, 5.2.5). An alert discards all units, also the one that waits;
-    /// nothing else does.
+    /// Why the sender has given up (CCSDS 232.1-B-2, 5.2.5). An alert discards all units, including the one that waits.
+    /// Nothing else discards units.
     Alert {
         Lockout = 1, "a report has the lockout flag";
         NnR = 2, "a report's value is not from NN(R) to V(S)";
@@ -233,8 +233,8 @@ impl Fop {
         }
     }
 
-    /// Takes a CLCW for this sender, whose virtual channel is `vcid`. Returns nothing, and changes nothing, for a CLCW
-    /// that reports on another channel.
+    /// Takes a CLCW for this sender, whose virtual channel is `vcid`. Returns `None`, and changes nothing, if the CLCW
+    /// reports on another channel.
     #[must_use]
     pub fn clcw(&mut self, vcid: u8, word: &Clcw) -> Option<Reported> {
         let mut released = 0;
@@ -244,7 +244,7 @@ impl Fop {
         }
     }
 
-    /// Takes a CLCW; the name of this call up to 0.2.
+    /// Takes a CLCW. This is the old name of [`clcw`](Fop::clcw), up to 0.2.
     #[must_use]
     #[deprecated(since = "0.3.0", note = "it is `clcw` now")]
     pub fn report(&mut self, vcid: u8, word: &Clcw) -> Option<Reported> {
@@ -262,8 +262,8 @@ impl Fop {
     /// V(S) = NN(R), the result is 0 for every value. If V(S) is not NN(R) and the value is beyond V(S), the result is
     /// `None`: then nothing is known of these units. The call works after an alert too, until V(S) is set or an
     /// initiation begins. It uses only the numbers: after an alert that shows a broken condition nothing is known of
-    /// these units, whatever the call returns. A CLCW that was made while frames were in transit on the uplink shows
-    /// too little for what is retransmitted (docs/CONTROL.md, "The steps").
+    /// these units, whatever the call returns. For a CLCW that was made while frames were in transit on the uplink, the
+    /// result may be too small (docs/CONTROL.md, "The steps").
     #[must_use]
     pub fn accepted_beyond(&self, value: u8) -> Option<u8> {
         let mut accepted = 0;

@@ -1,20 +1,20 @@
-//! Both ends of the CCSDS telecommand link with COP-1, for programs without a heap: the frame check, telecommand
-//! frames, space packets, control words, telemetry frames, the receiver FARM-1, the sender FOP-1, packets in segments
-//! and packets in telemetry frames. The feature `nodes` adds both nodes with their queues, and the simulated link
-//! between two nodes; these need an allocator. The standards are CCSDS 133.0-B-2 (space packets), 132.0-B-3
-//! (telemetry), 232.0-B-4 (telecommand) and 232.1-B-2 (COP-1).
+//! Both ends of the CCSDS telecommand link with COP-1, for programs without a heap: the FECF, telecommand frames, space
+//! packets, CLCWs, telemetry frames, the receiver FARM-1, the sender FOP-1, packets in segments and packets in
+//! telemetry frames. The feature `nodes` adds both nodes with their queues, and a simulated link; these need an
+//! allocator. The standards are CCSDS 133.0-B-2 (space packets), 132.0-B-3 (telemetry), 232.0-B-4 (telecommand) and
+//! 232.1-B-2 (COP-1).
 //!
 //! This crate provides safe types over the library for C. In the proved library each call is proved to do what its
 //! contract states. The portable C that the crate compiles if it finds no library, and the crate itself, are tested,
 //! not proved. Without `nodes` it allocates nothing, keeps no state of its own, and needs no `std`.
 //!
-//! - A codec is a type with `decode` and `encode`: [`TcFrame`], [`Packet`], [`Clcw`], [`TmFrame`]. What is decoded
+//! - A codec is a type with `decode` and `encode`: [`TcFrame`], [`Packet`], [`Clcw`], [`TmFrame`]. A decoded value
 //!   borrows its data from the octets.
 //! - A machine is a type that `new` creates, with a call for each event: [`Farm`], [`Fop`], [`Map`], [`TmBuilder`],
 //!   [`TmExtractor`].
 //! - An [`Executor`] decides what a board executes next, once and in order over restarts; the ground has
 //!   [`BoardStatus`], [`command_packet`], [`LogOrder`] and [`history_after`].
-//! - A refusal is an `Err` of a small enum of faults, with the number and the name in sedgechisel.h.
+//! - A refused call returns an `Err` with a small enum of faults, which have the numbers and names of sedgechisel.h.
 //!
 //! ```
 //! use sedgechisel::{Body, Farm, Fecf, SegmentFlags, TcFrame, Verdict};

@@ -1,11 +1,11 @@
-//! Commands that are executed once and in order on board, over restarts at any moment: the board's half, and the
+//! Commands that are executed once and in order on board, over restarts at any moment: the board's part, and the
 //! ground's codecs.
 
 use crate::ffi;
 use crate::numbers::{done, never};
 
 faults! {
-    /// Why a board does not take a packet, a record or a status is not read, or a packet is not written.
+    /// Why a board does not take a packet, why a record or a status is not read, or why a packet is not written.
     LogFault {
         Layout = 1, "not exactly one packet of this layout, or not the layout's number of octets";
         Check = 2, "the check does not hold, or a field has a value that the layout does not allow";
@@ -62,7 +62,7 @@ pub enum LogAction {
 /// assert_eq!(&places[0][..4], [0, 0, 0, 1]); // the boot count
 /// ```
 ///
-/// An action is completed before the next one is requested; so this is refused:
+/// The program completes an action before it requests the next one, so this does not compile:
 ///
 /// ```compile_fail,E0499
 /// # use sedgechisel::Executor;
@@ -83,9 +83,9 @@ impl Executor {
     /// The number of octets in a status.
     pub const STATUS: usize = 27;
 
-    /// Starts with the octets at the two places of the memory that survives restarts, 50 each. A place with any other
-    /// octets has no record. Pass another mark at each start, from a clock or at random: if neither place has a record,
-    /// it is the mark of this loss.
+    /// Starts with the octets at the two places of the memory that survives restarts, 50 each. A place with another
+    /// number of octets, or with octets that do not form a valid record, has no record. The mark must differ at each
+    /// start, and comes from a clock or is random: if neither place has a record, it is the mark of this loss.
     #[must_use]
     pub fn start(first: &[u8], second: &[u8], mark: u32) -> Self {
         let mut log = ffi::Log::default();
@@ -178,7 +178,7 @@ impl Due<'_> {
     }
 }
 
-/// What a board keeps of its commands.
+/// What a board keeps about its commands.
 #[derive(Clone, Copy, Debug, Default, PartialEq, Eq, Hash)]
 pub struct LogRecord {
     /// How often the board has started.

@@ -40,7 +40,7 @@ faults! {
 /// }
 /// ```
 ///
-/// Packets are passed on before the next segment is taken, which may overwrite them; so this is refused:
+/// Pass packets on before you take the next segment, which may overwrite them. So this does not compile:
 ///
 /// ```compile_fail,E0499
 /// # use sedgechisel::{Map, SegmentFlags};

@@ -157,7 +157,7 @@ impl Default for GapCheck {
     }
 }
 
-/// The number of application processes of which a packet was seen.
+/// The number of application processes whose packets were seen.
 impl fmt::Debug for GapCheck {
     fn fmt(&self, out: &mut fmt::Formatter<'_>) -> fmt::Result {
         let seen = self.0.last.iter().filter(|last| **last < 16384).count();

@@ -38,13 +38,14 @@ numbers! {
 /// Whether a telecommand frame ends with its FECF, the frame error control field (CCSDS 232.0-B-4, 4.1.4).
 #[derive(Clone, Copy, Debug, PartialEq, Eq, Hash)]
 pub enum Fecf {
-    /// It ends with the two octets.
+    /// The frame ends with these two octets.
     Present,
-    /// It does not.
+    /// The frame has no FECF.
     Absent,
 }
 
-/// `true` is [`Present`](Fecf::Present). This is for calls written before [`Fecf`] existed, and will be removed.
+/// `true` is [`Present`](Fecf::Present). This conversion is for calls written before [`Fecf`] existed, and will be
+/// removed.
 impl From<bool> for Fecf {
     fn from(is_present: bool) -> Self {
         if is_present {

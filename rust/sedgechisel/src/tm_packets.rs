@@ -42,7 +42,7 @@ impl<'m> TmBuilder<'m> {
         ffi::Part { from: self.kept.from, count: self.kept.count }.of(&self.memory)
     }
 
-    /// Queues a packet, all of its octets.
+    /// Queues a packet, given as all of its octets.
     ///
     /// # Errors
     ///
@@ -95,7 +95,7 @@ impl ffi::TmBuilder {
 /// has not ended is in memory that the caller lends or, with the feature `nodes`, in memory of its own (CCSDS
 /// 132.0-B-3, 4.3).
 ///
-/// Packets are passed on before the next frame is taken, which may overwrite them; so this is refused:
+/// Pass packets on before you take the next frame, which may overwrite them. So this does not compile:
 ///
 /// ```compile_fail,E0499
 /// # use sedgechisel::{TmExtractor, TmFrame};

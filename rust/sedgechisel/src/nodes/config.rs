@@ -89,8 +89,10 @@ impl Parameter {
     }
 }
 
-/// The managed parameters, with the ranges and the defaults of docs/PROFILE.md. Both ends of a link have the same ones.
-/// End a literal with `..Config::default()`, so that it still compiles when there is one more.
+/// The managed parameters, with the ranges and the defaults of docs/PROFILE.md. Both ends of a link have the same
+/// `scid`, `vcid`, `tm_vcid`, `width`, `max_packet`, `maps`, `frame_length` and `blocking`. Of the others, only the
+/// ground uses `window`, `limit`, `timer`, `part` and `queue_slots`, and only the spacecraft uses `ready_slots` and
+/// `bypass_slots`. End a literal with `..Config::default()`, so that it still compiles when a parameter is added.
 ///
 /// ```
 /// use sedgechisel::{Config, Parameter};
@@ -222,9 +224,9 @@ impl Config {
 pub enum OpenFault {
     /// The first parameter that is out of range.
     OutOfRange(Parameter),
-    /// FARM-B, of the numbers that were kept, is above 3.
+    /// FARM-B in the kept numbers is above 3.
     FarmB,
-    /// The record is not one that a ground of this configuration writes.
+    /// No ground of this configuration writes this record.
     Kept,
     /// Memory ran out.
     Memory,

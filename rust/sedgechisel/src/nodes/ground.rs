@@ -160,8 +160,8 @@ impl Ground {
         Ok(ground)
     }
 
-    /// Opens a ground that continues, in state S6, from the record that [`kept`](Self::kept) returned of a lost one:
-    /// with its V(S), its NN(R) and its counts of submissions, and with the window, the limit and the timer of the
+    /// Opens a ground that continues, in state S6, from the record that [`kept`](Self::kept) of a lost ground returned.
+    /// It has that ground's V(S), NN(R) and counts of submissions, and the window, the limit and the timer of the
     /// configuration. [`resume`](Self::resume) begins its next session, as after an alert.
     ///
     /// # Errors
@@ -202,8 +202,8 @@ impl Ground {
 
     /// Returns this ground's record, which has a fixed size. A program stores the record after each call, and after a
     /// pull before the frame goes out. If the ground is lost, [`open_at`](Self::open_at) opens another one from the
-    /// record. The record contains nothing of submissions that were not sent whole, of bypass packets, of telemetry, or
-    /// of what directives set.
+    /// record. The record contains nothing about submissions that were not sent whole, bypass packets, telemetry, or
+    /// what directives set.
     #[must_use]
     pub fn kept(&self) -> KeptGround {
         let mut kept = raw::KeptGround {
@@ -264,8 +264,8 @@ impl Ground {
     }
 
     /// Returns the next telecommand frames for the link, until nothing is to be sent now. Each is taken on request, as
-    /// [`pull`](Self::pull) takes it; those that are not requested stay in the ground. Refused only with 6
-    /// [`Memory`](LinkFault::Memory), and then there are no more; the frame does not count as sent.
+    /// [`pull`](Self::pull) takes it; those that are not requested stay in the ground. An item is refused only with 6
+    /// [`Memory`](LinkFault::Memory); the iterator then ends, and the frame does not count as sent.
     pub fn frames(&mut self) -> impl FusedIterator<Item = Result<Vec<u8>, LinkFault>> + '_ {
         one_by_one(|| {
             let mut count = 0;
@@ -299,9 +299,9 @@ impl Ground {
         Ok(Heard::from_raw(&heard))
     }
 
-    /// Takes a CLCW that came by itself, as a front end forwards it. The sender receives it like the CLCW of a
-    /// telemetry frame; telemetry is not touched. The front end may repeat the last CLCW before the next one, which
-    /// changes nothing; it may not forward an older one as if it were new.
+    /// Takes a CLCW that came by itself, as a front end forwards it. Passes it to the sender, as if it had arrived in a
+    /// telemetry frame; telemetry is unchanged. The front end may repeat the last CLCW before the next one, which
+    /// changes nothing; it must not forward an older one as if it were new.
     pub fn clcw(&mut self, octets: &[u8; 4]) -> HeardClcw {
         let mut heard = raw::Heard::default();
         done(raw::ground_clcw(self.0.get(), octets, &mut heard));
@@ -323,7 +323,7 @@ impl Ground {
         found.then(|| Clcw::from_raw(word))
     }
 
-    /// Returns the CLCW that a telemetry frame carries; the name of this call up to 0.2.
+    /// Returns the CLCW that a telemetry frame carries. This is the old name of [`clcw_in`](Self::clcw_in), up to 0.2.
     #[must_use]
     #[deprecated(since = "0.3.0", note = "it is `clcw_in` now")]
     pub fn report_in(&self, octets: &[u8]) -> Option<Clcw> {
@@ -342,8 +342,8 @@ impl Ground {
     }
 
     /// Returns the packets that telemetry frames carried, the oldest one first. Each is taken on request, as
-    /// [`take_telemetry`](Self::take_telemetry) takes it; those that are not requested stay in the ground. Refused only
-    /// with 6 [`Memory`](LinkFault::Memory), and then there are no more; the packet waits.
+    /// [`take_telemetry`](Self::take_telemetry) takes it; those that are not requested stay in the ground. An item is
+    /// refused only with 6 [`Memory`](LinkFault::Memory); the iterator then ends, and the packet waits.
     pub fn packets(&mut self) -> impl FusedIterator<Item = Result<Vec<u8>, LinkFault>> + '_ {
         one_by_one(|| self.take_telemetry())
     }
@@ -357,9 +357,10 @@ impl Ground {
     /// Returns how many of the segments that were sent and not acknowledged were accepted on board when a CLCW of this
     /// value was made. They are the oldest ones (CCSDS 232.1-B-2, 5.1). If V(S) = NN(R), the result is 0 for every
     /// value. If V(S) is not NN(R) and the value is beyond V(S), the result is `None`: then nothing is known of these
-    /// segments. The call works after an alert too, until V(S) is set or an initiation begins. A CLCW that was made
-    /// while frames were in transit on the uplink shows too little for what is retransmitted (docs/CONTROL.md, "After
-    /// an alert").
+    /// segments. The call works after an alert too, until V(S) is set or an initiation begins. It uses only the
+    /// numbers: after an alert that shows a broken condition nothing is known of these segments, whatever the call
+    /// returns. For a CLCW that was made while frames were in transit on the uplink, the result may be too small
+    /// (docs/CONTROL.md, "The steps").
     #[must_use]
     pub fn accepted_beyond(&self, value: u8) -> Option<u8> {
         let mut accepted = 0;
@@ -379,12 +380,12 @@ impl Ground {
         known.then_some(whole)
     }
 
-    /// Begins the next session after the alert `Timer`, `Limit` or `Terminated`, from where the last one has got to.
-    /// Sets V(S) to the value of a CLCW that was made when nothing was in transit on the uplink, and begins by Unlock
-    /// (CCSDS 232.1-B-2, 5.2.4). Returns how many of the ended session's submissions, from the first on, are on board
-    /// whole; resubmit those after them. (If the packets of a submission do not fit into one segment together, some of
-    /// them may be on board although it is not counted.) If V(S) = NN(R), it takes any value: nothing that was sent is
-    /// in doubt.
+    /// Begins the next session after the alert `Timer`, `Limit` or `Terminated`, from the point that the ended session
+    /// reached. Sets V(S) to the value of a CLCW that was made when nothing was in transit on the uplink, and begins by
+    /// Unlock (CCSDS 232.1-B-2, 5.2.4). Returns how many of the ended session's submissions, from the first on, are on
+    /// board whole; resubmit those after them. (If the packets of a submission do not fit into one segment together,
+    /// some of them may be on board although it is not counted.) If V(S) = NN(R), it accepts any value, so compare the
+    /// value with V(S) first (docs/CONTROL.md, "After an alert").
     ///
     /// # Errors
     ///
@@ -399,8 +400,8 @@ impl Ground {
     }
 
     /// The number of submissions of the session; they are numbered from 0, in order. This number,
-    /// [`sent_whole`](Self::sent_whole) and [`acknowledged_whole`](Self::acknowledged_whole) are modulo 2^64, also
-    /// after an alert, and 0 once V(S) is set.
+    /// [`sent_whole`](Self::sent_whole) and [`acknowledged_whole`](Self::acknowledged_whole) count modulo 2^64, remain
+    /// valid after an alert, and become 0 when V(S) is set.
     #[must_use]
     pub fn submitted(&self) -> u64 {
         self.read().submitted

@@ -104,7 +104,7 @@ impl fmt::Debug for Link {
     }
 }
 
-/// The fault with which a node refuses, or the one for a lack of memory.
+/// The fault with which a node refuses, or the one for out of memory.
 fn refusal<F>(reply: Result<raw::Reply, SimFault>, of: fn(u8) -> F, memory: F) -> Result<(), F> {
     match reply {
         Ok(reply) if reply.kind == raw::SEDGE_REPLY_REFUSED => Err(of(reply.fault)),
@@ -362,7 +362,7 @@ impl Link {
         }
     }
 
-    /// Whether the session began with nothing in transit, and without a CLCW check only if V(R) was V(S).
+    /// Whether the session began with nothing in transit, and, if it began without CLCW check, with V(R) = V(S).
     #[must_use]
     pub fn is_clean(&self) -> bool {
         self.read().clean
@@ -459,7 +459,7 @@ impl Link {
     }
 
     /// What was submitted in the session, in order: the MAP and the octets of each submission, or 6
-    /// [`Memory`](SimFault::Memory) for a submission for which there is no room.
+    /// [`Memory`](SimFault::Memory) if there is no memory for a submission.
     pub fn submissions(&self) -> impl ExactSizeIterator<Item = Result<(u8, Vec<u8>), SimFault>> + '_ {
         let (mut map, mut count, mut written) = (0, 0, 0);
         (0..self.0.number(|it, count| raw::sedge_sim_submissions(it, count))).map(move |k| {
@@ -470,8 +470,8 @@ impl Link {
         })
     }
 
-    /// The entries of a record of the session, in their order, or 6 [`Memory`](SimFault::Memory) for an entry for which
-    /// there is no room.
+    /// The entries of a record of the session, in order, or 6 [`Memory`](SimFault::Memory) if there is no memory for an
+    /// entry.
     pub fn record(&self, record: Record) -> impl ExactSizeIterator<Item = Result<Vec<u8>, SimFault>> + '_ {
         let (number, map) = record.raw();
         let (mut entries, mut count, mut written) = (0, 0, 0);

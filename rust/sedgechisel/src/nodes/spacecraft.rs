@@ -179,8 +179,8 @@ impl Spacecraft {
     }
 
     /// Returns the packets of sequence-controlled frames, each with its MAP, the oldest one first. Each is taken on
-    /// request, as [`take`](Self::take) takes it; those that are not requested stay on board. Refused only with 6
-    /// [`Memory`](LinkFault::Memory), and then there are no more; the packet waits.
+    /// request, as [`take`](Self::take) takes it; those that are not requested stay on board. An item is refused only
+    /// with 6 [`Memory`](LinkFault::Memory); the iterator then ends, and the packet waits.
     pub fn packets(&mut self) -> impl FusedIterator<Item = Result<(u8, Vec<u8>), LinkFault>> + '_ {
         one_by_one(|| self.take())
     }
@@ -199,8 +199,8 @@ impl Spacecraft {
     }
 
     /// Returns the bypass packets, each with its MAP, the oldest one first. Each is taken on request, as
-    /// [`take_bypass`](Self::take_bypass) takes it; those that are not requested stay on board. Refused only with 6
-    /// [`Memory`](LinkFault::Memory), and then there are no more; the packet waits.
+    /// [`take_bypass`](Self::take_bypass) takes it; those that are not requested stay on board. An item is refused only
+    /// with 6 [`Memory`](LinkFault::Memory); the iterator then ends, and the packet waits.
     pub fn bypass_packets(&mut self) -> impl FusedIterator<Item = Result<(u8, Vec<u8>), LinkFault>> + '_ {
         one_by_one(|| self.take_bypass())
     }
@@ -222,7 +222,7 @@ impl Spacecraft {
         &mut room[..count]
     }
 
-    /// Takes the next telemetry frame; the name of this call up to 0.2.
+    /// Takes the next telemetry frame. This is the old name of [`telemetry_frame`](Self::telemetry_frame), up to 0.2.
     #[deprecated(since = "0.3.0", note = "it is `telemetry_frame` now")]
     pub fn report<'o>(&mut self, room: &'o mut [u8; TmFrame::LONGEST]) -> &'o mut [u8] {
         self.telemetry_frame(room)
