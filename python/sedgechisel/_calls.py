@@ -604,7 +604,7 @@ class TcFrame(_Struct):
     @staticmethod
     def declared(octets: Octets, checked: bool = True) -> int:
         """Returns the length of the frame that begins with these octets, with its FECF unless `checked` is False.
-        Raises TcFault 1 for fewer than 5 octets, or 5."""
+        Raises TcFault 1 for fewer than 5 octets, or 5 if the declared length is too small."""
         octets = _octets_of("octets", octets)
         return _count_of(_tc_declared, TcFault, octets, len(octets), checked)
 
@@ -829,8 +829,8 @@ class TmFrame(_Struct):
 
     @classmethod
     def decode(cls, octets: Octets, length: Optional[int] = None) -> Tuple[TmFrame, bytes]:
-        """Reads all of the octets as one frame, of the channel's `length`, or of their own length. Returns the frame
-        and its data. Raises TmFault 1 to 6 if the octets are not a frame."""
+        """Reads all of the octets as one frame of the channel's `length`, or of any length if none is given. Returns the
+        frame and its data. Raises TmFault 1 to 6 if the octets are not a frame."""
         octets, frame, part = _octets_of("octets", octets), cls._C(), _Part()
         length = len(octets) if length is None else length
         TmFault._look_at(_tm_decode(octets, len(octets), length, frame, part))

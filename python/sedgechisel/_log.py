@@ -53,8 +53,8 @@ class Action(NamedTuple):
 class Executor(Single):
     """Decides on board which command is executed next: each once and in order, over restarts at any moment. It does no
     input or output. Pass it the octets at the two places in memory that survives restarts (no octets for a place that
-    cannot be read), and another `mark` at each start, from a clock or at random: if neither place has a record, it is
-    the mark of this loss. A new board has `new_record()` at both places.
+    cannot be read), and a `mark` that differs at each start, from a clock or at random: if neither place has a record,
+    it is the mark of this loss. A new board has `new_record()` at both places.
 
     The program must complete the action that `next` returns, and call `done`, before it calls `next` again."""
 

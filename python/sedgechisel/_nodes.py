@@ -563,8 +563,8 @@ class Ground(Directives, Handle):
         reached. Sets V(S) to the value of a CLCW that was made when nothing was in transit on the uplink, and begins by
         Unlock (232.1-B-2, 5.2.4). Returns how many of the ended session's submissions, counted from the first, are on
         board whole; submit the later ones again. (If a submission has several packets that do not fit into one segment
-        together, some of them may be on board although it is not counted.) If V(S) = NN(R), any value is taken: nothing
-        that was sent is in doubt.
+        together, some of them may be on board although it is not counted.) If V(S) = NN(R), it accepts any value, so
+        compare the value with V(S) first (docs/CONTROL.md, "After an alert").
 
         Raises LinkFault 10 (NotKnown) if nothing is known of what is on board: the sender is not in S6, no session has
         begun, V(S) has been set since, the session ended by an alert that shows a broken condition (Lockout, NnR, Clcw
