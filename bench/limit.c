@@ -1,5 +1,5 @@
-/* The limit of the machine: the lines of tctool's tc, farm, map, check, packets, tm and clcw, by the fastest means in
- * plain C.
+/* The limit that tctool is compared with: the lines of its tc, farm, map, check, packets, tm and clcw, by plain C that is
+ * written for speed.
  *
  * The file is mapped and no record is copied. Hexadecimal digits are copied in pairs from a table, the FECF takes eight
  * octets in each iteration, the number of a record is kept as digits, and there is one buffer. bench/run compares
