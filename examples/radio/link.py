@@ -10,6 +10,11 @@ TICK = 0.05  # seconds
 PORTS = range(1, 5)  # after BASE: CLTUs to the relay and to the board, CADUs to the relay and to the ground
 
 
+def longest(commands):
+    """Returns after how many seconds a ground with so many commands gives up."""
+    return 60 + commands / 2
+
+
 def bound(port):
     """Returns a socket at this port. Ends the program if the port is in use."""
     it = socket.socket(socket.AF_INET, socket.SOCK_DGRAM)
