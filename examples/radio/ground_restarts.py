@@ -18,7 +18,8 @@ def say(*words):
 
 
 def content(number):
-    return bytes((number + k) % 256 for k in range(1 + number * 37 % 600))
+    """Returns what a command carries here: the time at which it is given, and up to 600 further octets."""
+    return int(time.time() * 1e6).to_bytes(8, "big") + bytes((number + k) % 256 for k in range(1 + number * 37 % 600))
 
 
 class Store:
