@@ -54,6 +54,12 @@ SAID = (
     (r" ?Returns 0\.", ""),
 )
 ABSENT = r"Returns 0, or SEDGE_NODE_ABSENT(?= if| where)"
+# What the note of an event says, and what a method says; FRAME is the first frame in transit.
+EVENT_SAID = (
+    (r"^it is lost", "FRAME is lost"),
+    (r"^these arrive in its place, which are no frame",
+     "these octets, which must not form a valid frame, arrive instead of FRAME"),
+)
 
 
 def call_notes():
@@ -99,16 +105,6 @@ def translated(text, known, is_nullable, found):
     return " ".join(text.split())
 
 
-def event_note(note, name):
-    """What happens by an event, as a sentence."""
-    note = re.sub(r": (?:map|octets|directive|value).*", "", note)
-    frame = f"the first frame in transit on the {name.split('_')[0].lower()}link"
-    note = re.sub(r"^it is lost", f"{frame} is lost", note)
-    note = re.sub(r"^these arrive in its place, which are no frame",
-                  f"these octets, which must not form a valid frame, arrive instead of {frame}", note)
-    return sentence(note)
-
-
 def sentence(note):
     return f"{note[:1].upper()}{note[1:].rstrip('.')}."
 
@@ -133,9 +129,14 @@ class Notes:
         note = replaced(note, FIELD_SAID, self.found)
         return sentence(translated(note, self.known, False, self.found))
 
+    def event_note(self, note, name):
+        """What happens by an event, as a sentence."""
+        note = replaced(re.sub(r": (?:map|octets|directive|value).*", "", note), EVENT_SAID, self.found)
+        return sentence(note.replace("FRAME", f"the first frame in transit on the {name.split('_')[0].lower()}link"))
+
     def missed(self):
         """The phrases that no comment contains any more, so that they replace nothing."""
-        return [words for words, _ in (*FIELD_SAID, *SAID) if words not in self.found]
+        return [words for words, _ in (*FIELD_SAID, *SAID, *EVENT_SAID) if words not in self.found]
 
     def of(self, owner, member, is_getter, is_nullable):
         """The text of a member; nothing where it has its own."""
@@ -149,7 +150,7 @@ class Notes:
         if is_getter and owner == "Link":
             return None
         if owner == "Link" and name.upper() in self.events:
-            return event_note(self.events[name.upper()], name)
+            return self.event_note(self.events[name.upper()], name)
         call = self.calls.get(f"sedge_{beginning}_{name}")
         return call and translated(call, self.known, is_nullable, self.found)
 
