@@ -88,7 +88,8 @@ export class Executor {
      */
     constructor(first: Uint8Array, second: Uint8Array, mark: number);
     /**
-     * Returns the program's next action. The program completes the action and calls `done` before it calls this again.
+     * Returns the program's next action. The program completes this action and calls `done` before it calls `next`
+     * again.
      * @returns {Action}
      * @throws {Error} if `done` was not called for the action that it returned last
      */
@@ -100,7 +101,7 @@ export class Executor {
      */
     done(action: Action): void;
     /**
-     * Takes the octets of a packet that arrived if it is the next command, and returns the mission's octets in them.
+     * Takes the octets of a packet that arrived, if it is the next command, and returns the mission's octets in them.
      * Throws LogFault, and changes nothing, for any other packet, which is dropped: 1 Layout, then 2 Check, then 3
      * Starting, 4 Busy or 5 Lost, then 6 Behind or 7 Ahead.
      * @param {Uint8Array} octets
@@ -108,16 +109,16 @@ export class Executor {
      */
     offer(octets: Uint8Array): Uint8Array;
     /**
-     * Takes the octets of an order that arrived: the next action is then RESTART; or a board that has lost its record
-     * continues with the record that the order brings, if the order has the mark of this loss. Throws LogFault, and
-     * changes nothing, for any other packet, which is dropped: 1 Layout, then 2 Check; of a restart 3 Starting, 4 Busy
-     * or 5 Lost, then 8 OtherBoot; of a record 9 NotLost, then 10 OtherMark.
+     * Takes the octets of an order that arrived. An order to restart makes RESTART the next action. A board that has
+     * lost its record continues with the one that the order brings, if the order has the mark of this loss. Throws
+     * LogFault, and changes nothing, for any other packet, which is dropped: 1 Layout, then 2 Check; of a restart 3
+     * Starting, 4 Busy or 5 Lost, then 8 OtherBoot; of a record 9 NotLost, then 10 OtherMark.
      * @param {Uint8Array} octets
      */
     obey(octets: Uint8Array): void;
     /**
-     * Returns the status for telemetry, 27 octets, with the number of commands that wait on board to be offered, at
-     * most 255.
+     * Returns the status for telemetry, 27 octets, with the number of commands that wait on board to be offered; a
+     * number above 255 is written as 255.
      * @param {number} [waiting]
      * @returns {Uint8Array}
      */

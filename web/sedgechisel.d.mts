@@ -34,7 +34,7 @@ export interface sedge_farm {
 export interface sedge_fop {
     /** The timer's value in ticks, at least 1. */
     timer: number;
-    /** The ticks that are left while the timer runs, and 0 while it is off. */
+    /** The ticks that are left while the timer runs, or 0 while it is off. */
     ticks: number;
     /** Half the receiver's window width, 1 to 127: the maximum number of units sent and not acknowledged. */
     room: number;
@@ -48,7 +48,7 @@ export interface sedge_fop {
     waiting: number;
     /** The number of units sent and not acknowledged, at most room. */
     sent: number;
-    /** The number of these, the last ones, that are due to be retransmitted. */
+    /** How many of these, the last ones, are due to be retransmitted. */
     due: number;
     /** The window K, 1 to room. */
     window: number;
@@ -58,7 +58,7 @@ export interface sedge_fop {
     count: number;
     /** Of `sedge_control`. */
     control: number;
-    /** The number of the control command Set V(R), and 0 if there is no such command. */
+    /** The number of the control command Set V(R), or 0 if there is no such command. */
     vr: number;
 }
 
@@ -95,7 +95,7 @@ export interface sedge_packet {
 }
 
 export interface sedge_gap_check {
-    /** By APID; above 16,383 if no packet of the APID was seen. */
+    /** The last count that was seen, by APID; above 16,383 if no packet of the APID was seen. */
     last: number[];
 }
 
@@ -119,7 +119,7 @@ export interface sedge_tm_builder {
     from: number;
     /** The number of octets that are to be sent. */
     count: number;
-    /** The number of these, the first ones, that are left of the packet that was begun. */
+    /** How many of these, the first ones, are left of the packet that was begun. */
     begun: number;
     /** The spacecraft identifier, below 1,024. */
     scid: number;
@@ -136,7 +136,7 @@ export interface sedge_tm_builder {
 export interface sedge_tm_extractor {
     /** Where the part is in the memory. */
     from: number;
-    /** The number of octets of the part, and 0 if there is none. */
+    /** The number of octets of the part, or 0 if there is none. */
     count: number;
     /** The virtual channel frame count of the last frame, if one was seen. */
     last: number;
@@ -145,18 +145,18 @@ export interface sedge_tm_extractor {
 }
 
 export interface sedge_tm_extracted {
-    /** The length of the packet at the beginning of the memory, and 0 if there is none. */
+    /** The length of the packet at the beginning of the memory, or 0 if there is none. */
     joined: number;
     /** Where `sedge_tm_packet` begins in the frame's data. */
     packets: sedge_part;
     /** Whether this is the first frame, 0 or 1. */
     first: number;
-    /** The number of frames missing before it, modulo 256, and 0 for the first (4.1.2.6). */
+    /** The number of frames missing before it, modulo 256, or 0 for the first (4.1.2.6). */
     lost: number;
 }
 
 export interface sedge_map {
-    /** The octets of the open part, and 0 if none is open. */
+    /** The number of octets of the open part, or 0 if none is open. */
     count: number;
     /** Whether a part is open, 0 or 1. */
     open: number;
@@ -165,11 +165,11 @@ export interface sedge_map {
 }
 
 export interface sedge_taken {
-    /** The octets of all the packets together, and 0 if there are none. */
+    /** The number of octets of all the packets together, or 0 if there are none. */
     count: number;
     /** Of `sedge_where`. */
     where: number;
-    /** Of `sedge_dropped`, the later of two. */
+    /** Of `sedge_dropped`; if octets were dropped for two causes, the later one. */
     dropped: number;
 }
 
@@ -184,8 +184,8 @@ export interface sedge_limits {
 
 export interface sedge_log_record {
     /**
-     * A bit for each of the 64 numbers up to last, the lowest for last: 1 if it is known that the command was executed,
-     * whole.
+     * A bit for each of the 64 numbers up to last, the lowest bit for last: 1 if it is known that the command was
+     * executed completely.
      */
     known: bigint;
     /** How often the board has started. */
@@ -219,7 +219,7 @@ export interface sedge_board_status {
 }
 
 export interface sedge_log_order {
-    /** The boot count: of the board that restarts, or of the record. */
+    /** The boot count, of the board that restarts or of the record. */
     boot: number;
     /** The last number of the record; 0 for a restart. */
     last: number;
@@ -446,12 +446,12 @@ export interface Box { value: number }
 
 /** The calls of the headers, with their comments. A call may write a struct or a box: it may be empty before. */
 export interface Calls {
-    /** The version of the library. */
+    /** Returns the version of the library. */
     sedge_version(): string;
     /** Returns the check of the octets. */
     sedge_check(octets: Uint8Array): number;
     /**
-     * Sets the last two octets to the check of those before them, and returns true; for fewer than two octets, returns
+     * Sets the last two octets to the check of those before them, and returns true. For fewer than two octets, returns
      * false and writes nothing.
      */
     sedge_check_append(octets: Uint8Array): boolean;
@@ -462,12 +462,12 @@ export interface Calls {
     sedge_check_holds(octets: Uint8Array): boolean;
     /**
      * Reads four octets as a CLCW of any virtual channel: compare its vcid with your own before you use its value or
-     * its flags (`sedge_fop_clcw` does so itself). Returns 0, or the first of 1 to 4 of `sedge_clcw_fault`, or
-     * `SEDGE_WRONG_COUNT` if the octets are not four.
+     * its flags (`sedge_fop_clcw` does so itself). Returns 0, or the first of 1 to 4 of `sedge_clcw_fault` that
+     * applies, or `SEDGE_WRONG_COUNT` if the octets are not four.
      */
     sedge_clcw_decode(octets: Uint8Array, word: Partial<sedge_clcw>): number;
     /**
-     * Writes a CLCW as four octets. Returns 0, or `SEDGE_CLCW_RANGE`, or `SEDGE_WRONG_COUNT` if the buffer is not four
+     * Writes a CLCW as four octets. Returns 0, `SEDGE_CLCW_RANGE`, or `SEDGE_WRONG_COUNT` if the buffer is not four
      * octets long.
      */
     sedge_clcw_encode(word: Partial<sedge_clcw>, out: Uint8Array): number;
@@ -477,8 +477,9 @@ export interface Calls {
      */
     sedge_farm_open(farm: Partial<sedge_farm>, width: number, vr: number): number;
     /**
-     * Judges a Type-AD frame with the number `n`; `buffer_free` states whether there is room for its data. Returns its
-     * verdict, of `sedge_verdict`: if it is `SEDGE_ACCEPTED`, pass on the data. Or returns `SEDGE_DAMAGED`.
+     * Judges a Type-AD frame whose number N(S) is `n`; `buffer_free` states whether there is room for its data. Returns
+     * the verdict, of `sedge_verdict`, or `SEDGE_DAMAGED`. If the verdict is `SEDGE_ACCEPTED`, pass on the frame's
+     * data.
      */
     sedge_farm_ad(farm: Partial<sedge_farm>, n: number, buffer_free: boolean): number;
     /** Counts a Type-BD frame; pass on its data in every state. Returns 0, or `SEDGE_DAMAGED`. */
@@ -486,112 +487,114 @@ export interface Calls {
     /** Executes the control command Unlock. Returns 0, or `SEDGE_DAMAGED`. */
     sedge_farm_unlock(farm: Partial<sedge_farm>): number;
     /**
-     * Executes the control command Set V(R); in Lockout it is only counted, and V(R) does not change. Returns 0, or
-     * `SEDGE_DAMAGED`.
+     * Executes the control command Set V(R); in Lockout it is only counted in FARM-B, and V(R) does not change. Returns
+     * 0, or `SEDGE_DAMAGED`.
      */
     sedge_farm_set_vr(farm: Partial<sedge_farm>, vr: number): number;
     /** Records that there is room on board again. Returns 0, or `SEDGE_DAMAGED`. */
     sedge_farm_released(farm: Partial<sedge_farm>): number;
     /**
-     * Writes the CLCW (232.0-B-4, 4.2) that reports the receiver's present state, for the virtual channel `vcid`; the
+     * Writes the CLCW (232.0-B-4, 4.2) that reports the receiver's present state for the virtual channel `vcid`; the
      * flags for the radio channel and bit lock are 0. Returns 0, or `SEDGE_DAMAGED`, or `SEDGE_CLCW_RANGE` if `vcid` is
      * not below 64.
      */
     sedge_farm_control_word(farm: Partial<sedge_farm>, vcid: number, word: Partial<sedge_clcw>): number;
-    /** Returns the state, of `sedge_farm_mode`, or `SEDGE_DAMAGED`. */
+    /** Returns the receiver's state, of `sedge_farm_mode`, or `SEDGE_DAMAGED`. */
     sedge_farm_state(farm: Partial<sedge_farm>): number;
     /**
-     * Begins a sender in state S6 with V(S) and NN(R) 0, for a receiver of this window width, with the window K, the
+     * Begins a sender in state S6 with V(S) = NN(R) = 0, for a receiver of this window width, with the window K, the
      * transmission limit and the timer's value in ticks. Returns 0, or the first of `SEDGE_COP_WIDTH` (not even, 2 to
      * 254), `SEDGE_COP_WINDOW` (not 1 to half the width), `SEDGE_COP_LIMIT` (0) and `SEDGE_COP_TIMER` (0).
      */
     sedge_fop_open(fop: Partial<sedge_fop>, width: number, window: number, limit: number, timer: number): number;
     /**
      * Gives the sender a directive, of `sedge_directive`, with its value; a directive without a value ignores it.
-     * Returns 0; or `SEDGE_COP_WRONG_STATE`; or for a value out of range `SEDGE_COP_WINDOW`, `SEDGE_COP_LIMIT` or
-     * `SEDGE_COP_TIMER`; or `SEDGE_DAMAGED`, also for a number that is not a directive, and for a V(R) or V(S) above
-     * 255.
+     * Returns 0, or `SEDGE_COP_WRONG_STATE`, or for a value out of range `SEDGE_COP_WINDOW`, `SEDGE_COP_LIMIT` or
+     * `SEDGE_COP_TIMER`. Returns `SEDGE_DAMAGED` also for a number that is not a directive, and for a V(R) or V(S)
+     * above 255.
      */
     sedge_fop_directive(fop: Partial<sedge_fop>, directive: number, value: number): number;
     /**
      * Submits a unit to be sent under sequence control. The unit waits, and the caller keeps it. Returns 0, or
-     * `SEDGE_DAMAGED`, or `SEDGE_COP_NOT_OPEN` in S6, or `SEDGE_COP_BUSY` while another one waits.
+     * `SEDGE_DAMAGED`, or `SEDGE_COP_NOT_OPEN` in S6, or `SEDGE_COP_BUSY` while another unit waits.
      */
     sedge_fop_submit(fop: Partial<sedge_fop>): number;
     /**
-     * Takes what is to be sent on the link next. Returns one of `sedge_next`, and writes its number, or 0 if it has
-     * none; or returns `SEDGE_DAMAGED`, with nothing written.
+     * Takes what is to be sent on the link next. Returns what this is, of `sedge_next`, and writes its number, or 0 if
+     * it has none; or returns `SEDGE_DAMAGED`, with nothing written.
      */
     sedge_fop_next(fop: Partial<sedge_fop>, number: Partial<Box>): number;
     /**
      * Takes a CLCW for the sender of the virtual channel `vcid`. The call compares this number with the CLCW's `vcid`;
      * the caller has already compared the scid of the telemetry frame that carried the CLCW. Returns the alert, of
-     * `sedge_alert`, and writes the number of units that are acknowledged, the oldest of those sent; or with nothing
-     * written and nothing changed it returns the first of `SEDGE_ABSENT`, if the CLCW reports on another channel, and
-     * `SEDGE_DAMAGED`.
+     * `sedge_alert`, and writes how many units are acknowledged, the oldest of those sent. Or returns the first of
+     * `SEDGE_ABSENT`, if the CLCW reports on another channel, and `SEDGE_DAMAGED`, with nothing written and nothing
+     * changed.
      */
     sedge_fop_clcw(fop: Partial<sedge_fop>, vcid: number, word: Partial<sedge_clcw>, released: Partial<Box>): number;
     /** Counts a tick of the clock. Returns the alert, of `sedge_alert`, or `SEDGE_DAMAGED`. */
     sedge_fop_tick(fop: Partial<sedge_fop>): number;
     /**
-     * Writes how many of the units that were sent and not acknowledged were accepted on board when a CLCW of this value
-     * was made. They are the oldest ones, with the numbers from NN(R) to value - 1 (5.1). The call does so after an
-     * alert too, until V(S) is set or an initiation begins. It uses only the numbers: after an alert that shows a
-     * broken condition nothing is known of these units, whatever the call writes. If V(S) is NN(R), there are no such
+     * Writes how many of the units that were sent and not acknowledged were accepted on board when a CLCW with this
+     * value was made. They are the oldest ones, with the numbers from NN(R) to value - 1 (5.1). The call does so after
+     * an alert too, until V(S) is set or an initiation begins. It uses only the numbers: after an alert that shows a
+     * broken condition, nothing is known of these units, whatever the call writes. If V(S) is NN(R), there are no such
      * units, and the call writes 0 for every value. Returns 0, or `SEDGE_DAMAGED`, or `SEDGE_ABSENT` if there are such
-     * units and the value does not lie from NN(R) to V(S), so that nothing is known of them; nothing is written then.
+     * units and the value does not lie from NN(R) to V(S): nothing is then known of them, and nothing is written.
      */
     sedge_fop_accepted_beyond(fop: Partial<sedge_fop>, value: number, accepted: Partial<Box>): number;
     /**
-     * Writes the same number for a sender with this NN(R) and V(S). Returns 0, or `SEDGE_ABSENT` if nothing is known.
+     * Writes what `sedge_fop_accepted_beyond` writes for a sender with this NN(R) and this V(S). Returns 0, or
+     * `SEDGE_ABSENT` if nothing is known.
      */
     sedge_accepted_beyond(nn: number, vs: number, value: number, accepted: Partial<Box>): number;
     /**
-     * Reads all of the octets as one frame, which ends with its FECF if `checked` is true, and writes where the data
-     * after the segment header are; for a control frame, which has none, the part is `{0, 0}`. The frame may be of any
-     * spacecraft and virtual channel: compare scid and vcid with your own before you pass the frame to a receiver.
-     * Returns 0, or the first of 1 to 9 of `sedge_tc_fault`.
+     * Reads all of the octets as one frame, which ends with its FECF if `checked` is true. Writes the frame's fields,
+     * and where the data after the segment header are: `{0, 0}` for a control frame, which has none. The frame may be
+     * of any spacecraft and virtual channel: compare scid and vcid with your own before you pass the frame to a
+     * receiver. Returns 0, or the first of 1 to 9 of `sedge_tc_fault` that applies.
      */
     sedge_tc_decode(octets: Uint8Array, checked: boolean, frame: Partial<sedge_tc_frame>, data: Partial<sedge_part>): number;
     /**
      * Writes the frame with these data (ignored for a control frame) to the beginning of `out`, with its FECF if
-     * `checked` is true, and its length in octets, 6 to 1,024, to `total`. Returns 0, or the first of `SEDGE_DAMAGED`
-     * (the kind, the segment flags or the command is not in its enumeration), `SEDGE_TC_FIELD_RANGE` and
-     * `SEDGE_TC_ROOM`.
+     * `checked` is true. Writes the frame's length in octets, 6 to 1,024, to `total`. Returns 0, or the first of
+     * `SEDGE_DAMAGED` (the kind, the segment flags or the command is not in its enumeration), `SEDGE_TC_FIELD_RANGE`
+     * and `SEDGE_TC_ROOM`.
      */
     sedge_tc_encode(frame: Partial<sedge_tc_frame>, data: Uint8Array, checked: boolean, out: Uint8Array, total: Partial<Box>): number;
     /**
-     * Writes the length of the frame that begins with these octets, from its first 5 octets only; use it to cut a
-     * stream (4.1.2.7). Returns 0, or `SEDGE_TC_SHORT` for fewer than 5 octets, or `SEDGE_TC_LENGTH` if it declares
-     * fewer than 5, or with the FECF fewer than 7.
+     * Reads the length of the frame that begins with these octets from its first 5 octets, and writes it to `total`;
+     * use it to cut a stream (4.1.2.7). Returns 0, or `SEDGE_TC_SHORT` for fewer than 5 octets, or `SEDGE_TC_LENGTH` if
+     * the frame declares fewer than 5 octets, or with its FECF fewer than 7.
      */
     sedge_tc_declared(octets: Uint8Array, checked: boolean, total: Partial<Box>): number;
     /**
      * Reads the frames that follow one another in the octets, each as long as it declares (4.1.2.7), and writes a
-     * record of 12 octets for each to `out`, in order. A record contains the number of the frame's octets, what
-     * `sedge_tc_decode` returns for it, and the scid, vcid, kind, n, flags, map, command and vr that this call writes,
-     * or 0 for each if it refuses the frame. The number and the scid have two octets, the lower one first. The data of
-     * a Type-AD or a Type-BD frame begin 6 octets after its first. Stops when `out` has no room for a record, or when
-     * no whole frame follows. Call `sedge_tc_declared` with the octets there to find out whether their length is
-     * refused. Writes the number of octets of all these frames to `total`. Returns the number of frames.
+     * record of 12 octets for each to `out`, in order. A record contains the number of the frame's octets, the number
+     * that `sedge_tc_decode` returns for the frame, and the scid, vcid, kind, n, flags, map, command and vr that it
+     * writes, or 0 for each of these if it refuses the frame. The number of octets and the scid take two octets each,
+     * the lower one first. The data of a Type-AD or Type-BD frame begin 6 octets after the frame does. Stops when `out`
+     * has no room for a record, or when no whole frame follows; call `sedge_tc_declared` with the octets there to find
+     * out whether their length is refused. Writes the number of octets of all these frames to `total`. Returns the
+     * number of frames.
      */
     sedge_tc_frames(octets: Uint8Array, checked: boolean, out: Uint8Array, total: Partial<Box>): number;
     /**
-     * Reads the packet at the beginning of the octets, and writes where its data field is. The packet ends where its
-     * data field ends, and octets after it are ignored. Returns 0, or the first of 1 to 3 of `sedge_packet_fault`
-     * (`SEDGE_PACKET_TRUNCATED` for fewer octets than declared comes last).
+     * Reads the packet at the beginning of the octets, and writes its fields and where its data field is. The packet
+     * ends with its data field, and octets after it are ignored. Returns 0, or the first of 1 to 3 of
+     * `sedge_packet_fault` that applies; the declared length (`SEDGE_PACKET_TRUNCATED`) is checked last.
      */
     sedge_packet_decode(octets: Uint8Array, packet: Partial<sedge_packet>, data: Partial<sedge_part>): number;
     /**
-     * Writes the packet with this data field to the beginning of `out`, and its length in octets, 6 more than its data,
-     * to `total`. Returns 0, or the first of `SEDGE_DAMAGED` (the kind is not in its enumeration, or the secondary
-     * header flag is above 1), `SEDGE_PACKET_FIELD_RANGE` and `SEDGE_PACKET_ROOM`.
+     * Writes the packet with this data field to the beginning of `out`, and its length in octets, 6 more than its data
+     * have, to `total`. Returns 0, or the first of `SEDGE_DAMAGED` (the kind is not in its enumeration, or the
+     * secondary header flag is above 1), `SEDGE_PACKET_FIELD_RANGE` and `SEDGE_PACKET_ROOM`.
      */
     sedge_packet_encode(packet: Partial<sedge_packet>, data: Uint8Array, out: Uint8Array, total: Partial<Box>): number;
     /**
-     * Writes the length of the packet that begins with these octets, from its first 6 octets only; use it to cut a
-     * stream (4.1.3.5). Returns 0, or `SEDGE_PACKET_TRUNCATED` for fewer than 6 octets, or `SEDGE_PACKET_VERSION`, or
-     * `SEDGE_PACKET_IDLE_WITH_SECONDARY`.
+     * Reads the length of the packet that begins with these octets from its first 6 octets, and writes it to `total`;
+     * use it to cut a stream (4.1.3.5). Returns 0, or `SEDGE_PACKET_TRUNCATED` for fewer than 6 octets, or
+     * `SEDGE_PACKET_VERSION`, or `SEDGE_PACKET_IDLE_WITH_SECONDARY`.
      */
     sedge_packet_declared(octets: Uint8Array, total: Partial<Box>): number;
     /** Begins a check of sequence counts that has seen no packet. */
@@ -599,19 +602,19 @@ export interface Calls {
     /**
      * Records a packet of this APID with this count, as `sedge_packet_decode` writes them, and writes the number of
      * packets missing before it to `missing`: (count - last - 1) modulo 16,384. Returns 0, or `SEDGE_ABSENT` for the
-     * first packet of the APID, which is recorded too; or `SEDGE_PACKET_FIELD_RANGE` if `apid` is not below 2,048 or
+     * first packet of the APID, which is recorded too, or `SEDGE_PACKET_FIELD_RANGE` if `apid` is not below 2,048 or
      * `count` not below 16,384.
      */
     sedge_gap_check_see(check: Partial<sedge_gap_check>, apid: number, count: number, missing: Partial<Box>): number;
     /**
-     * Reads all of the octets as one frame of this length, and writes where its data are. The frame may be of any
-     * spacecraft and virtual channel: compare scid and vcid with your own before you pass the frame to an extractor,
+     * Reads all of the octets as one frame of this length, and writes its fields and where its data are. The frame may
+     * be of any spacecraft and virtual channel: compare scid and vcid with your own before you pass it to an extractor,
      * and scid before you use its CLCW. Returns 0, or the first of 1 to 6 of `sedge_tm_fault`.
      */
     sedge_tm_decode(octets: Uint8Array, length: number, frame: Partial<sedge_tm_frame>, data: Partial<sedge_part>): number;
     /**
      * Writes the frame with these data and its FECF to the beginning of `out`, and its length in octets, 12 more than
-     * its data, to `total`. Returns 0, or the first of `SEDGE_TM_FIELD_RANGE` and `SEDGE_TM_ROOM`.
+     * its data have, to `total`. Returns 0, or the first of `SEDGE_TM_FIELD_RANGE` and `SEDGE_TM_ROOM`.
      */
     sedge_tm_encode(frame: Partial<sedge_tm_frame>, data: Uint8Array, out: Uint8Array, total: Partial<Box>): number;
     /**
@@ -620,22 +623,22 @@ export interface Calls {
      */
     sedge_tm_builder_open(builder: Partial<sedge_tm_builder>, scid: number, vcid: number, length: number): number;
     /**
-     * Queues a packet, all of its octets, after those that are to be sent, which it does not read. Returns 0, or the
-     * first of `SEDGE_DAMAGED` (no builder has the numbers of the struct, or its octets are not in the memory),
-     * `SEDGE_TM_NOT_A_PACKET` (not exactly one packet, or an idle one) and `SEDGE_TM_MEMORY` (the octets to be sent and
-     * the packet do not fit in the memory).
+     * Queues a packet, given by all of its octets, after the octets that are already to be sent; those are not read.
+     * Returns 0, or the first of `SEDGE_DAMAGED` (no builder has the numbers of the struct, or its octets are not in
+     * the memory), `SEDGE_TM_NOT_A_PACKET` (not exactly one packet, or an idle one) and `SEDGE_TM_MEMORY` (the octets
+     * to be sent and the packet do not fit in the memory).
      */
     sedge_tm_builder_queue(builder: Partial<sedge_tm_builder>, packet: Uint8Array, memory: Uint8Array): number;
     /**
-     * Writes the next frame to the beginning of `out`, with this operational control field, of four octets as
-     * `sedge_clcw_encode` writes them, and its length, that of all the builder's frames, to `total`. If packets run out
-     * within the frame, an idle packet fills it; if nothing is to be sent, the frame has only idle data. Returns 0, or
-     * the first of `SEDGE_DAMAGED` (as for `sedge_tm_builder_queue`, or the octets that this frame takes are not whole
-     * packets), `SEDGE_WRONG_COUNT` (the field is not four octets) and `SEDGE_TM_ROOM`.
+     * Writes the next frame to the beginning of `out`, with this operational control field, as `sedge_clcw_encode`
+     * writes it, and its length, which is the builder's frame length, to `total`. If packets run out within the frame,
+     * an idle packet fills it; if nothing is to be sent, it has only idle data. Returns 0, or the first of
+     * `SEDGE_DAMAGED` (as for `sedge_tm_builder_queue`, or the octets that this frame takes are not whole packets),
+     * `SEDGE_WRONG_COUNT` (the field is not four octets) and `SEDGE_TM_ROOM`.
      */
     sedge_tm_builder_build(builder: Partial<sedge_tm_builder>, ocf: Uint8Array, memory: Uint8Array, out: Uint8Array, total: Partial<Box>): number;
     /**
-     * Takes the next frame of the spacecraft and the virtual channel that arrived: its fields and its data, as
+     * Takes the next frame that arrived from the spacecraft on the virtual channel: its fields and its data, as
      * `sedge_tm_decode` writes them. Use its packets before the next call:      if (extracted.joined > 0)
      * use_packet(memory, extracted.joined);     struct sedge_part packet = extracted.packets;     while
      * (sedge_tm_packet(data, data_count, &packet)) use_packet(data + packet.from, packet.count);  If frames are
@@ -651,77 +654,79 @@ export interface Calls {
     sedge_tm_packet(data: Uint8Array, packet: Partial<sedge_part>): boolean;
     /**
      * Takes the frames of this length that follow one another in the octets, each as `sedge_tm_decode` and then
-     * `sedge_tm_extractor_frame` take it. Writes a record of 19 octets for each frame to `out`, in order. A record
-     * contains the number of octets of the frame's packets (four octets, the lowest one first), and the first fault of
+     * `sedge_tm_extractor_frame` take it, and writes a record of 19 octets for each to `out`, in order. A record begins
+     * with the number of octets of the frame's packets (four octets, the lowest one first), and the first fault of
      * these two calls, or 0. Then come first, lost and dropped; dropped is 1 if a begun packet that is not idle is
      * dropped, and otherwise 0. The record ends with the frame's fields: the scid and the pointer (two octets each, the
      * lower one first), the vcid, mc_count, vc_count and ocf. These fields are 0 if the octets do not form a valid
      * frame. Writes the packets of all these frames to `packets`, one after another: `sedge_map_packet` finds where
-     * each begins. Stops when `out` has no room for a record, or when `packets` has no room for as many octets as the
-     * memory and a frame have together. It also stops when no whole frame follows, and takes no frame if the length is
-     * 0. Writes the number of octets of all these packets to `total`. Returns the number of frames.
+     * each begins. Stops when `out` has no room for a record, when `packets` has no room for as many octets as the
+     * memory and a frame have together, or when no whole frame follows. Takes no frame if the length is 0. Writes the
+     * number of octets of all these packets to `total`. Returns the number of frames.
      */
     sedge_tm_extractor_frames(extractor: Partial<sedge_tm_extractor>, octets: Uint8Array, frame_length: number, memory: Uint8Array, out: Uint8Array, packets: Uint8Array, total: Partial<Box>): number;
     /**
-     * Takes the next segment of the MAP: its flags, of `sedge_segment_flags`, and its data. Pass on the packets that
-     * are whole now before the next call. Returns 0, or `SEDGE_DAMAGED`, also for flags above 3.
+     * Takes the next segment of the MAP: its flags, of `sedge_segment_flags`, and its data. Before the next call, pass
+     * on the packets that are whole now. Returns 0, or `SEDGE_DAMAGED`, also for flags above 3.
      */
     sedge_map_take(map: Partial<sedge_map>, flags: number, data: Uint8Array, memory: Uint8Array, taken: Partial<sedge_taken>): number;
     /**
-     * Moves to the packet after this part of the octets; begin with `{0, 0}`. Returns true, and the part is that
-     * packet; or returns false and writes nothing if there is none.
+     * Finds the packet that follows this part of the octets; begin with `{0, 0}`. Returns true and writes where that
+     * packet is; or returns false and writes nothing if there is none.
      */
     sedge_map_packet(octets: Uint8Array, packet: Partial<sedge_part>): boolean;
     /**
      * Writes the number of segments into which a packet is cut, or with blocking one or more packets, one after
-     * another. Returns 0, or `SEDGE_DAMAGED`, or the first of `sedge_map_fault`.
+     * another. Returns 0, or `SEDGE_DAMAGED`, or the first of `sedge_map_fault` that applies.
      */
     sedge_map_count(octets: Uint8Array, limits: Partial<sedge_limits>, segments: Partial<Box>): number;
     /**
-     * Writes segment `k` of these, counted from 0: its flags, of `sedge_segment_flags`, and where its data are in the
-     * octets. Each call starts from the first packet, so with blocking the time for all segments of n packets grows as
-     * n * n. Returns what `sedge_map_count` does, or `SEDGE_ABSENT` if there are fewer segments.
+     * Writes segment `k`, counted from 0, of the segments that `sedge_map_count` counts: its flags, of
+     * `sedge_segment_flags`, and where its data are in the octets. Each call starts from the first packet, so with
+     * blocking the time for all segments of n packets grows as n * n. Returns what `sedge_map_count` does, or
+     * `SEDGE_ABSENT` if there are fewer segments.
      */
     sedge_map_segment(octets: Uint8Array, limits: Partial<sedge_limits>, k: number, flags: Partial<Box>, data: Partial<sedge_part>): number;
     /**
-     * Starts with the octets at the two places of the memory that survives restarts, 50 each. A place with another
-     * number of octets, or with octets that do not form a valid record, has no record. Pass another mark at each start,
-     * from a clock or at random: if neither place has a record, it is the mark of this loss.
+     * Starts a board from the octets at the two places of the memory that survives restarts, 50 each. A place with
+     * another number of octets, or with octets that are not a valid record, has no record. Pass a different mark at
+     * each start, from a clock or at random: it is the mark of this loss if neither place has a record.
      */
     sedge_log_start(log: Partial<sedge_log>, first: Uint8Array, second: Uint8Array, mark: number): void;
     /**
-     * Returns the program's next action, of `sedge_log_action`. The program completes the action and calls
-     * `sedge_log_done` before it calls this again. For a write, `out` receives the 50 octets of the place; otherwise it
-     * does not change. `number` receives the number of the command to be executed, or 0 for any other action. Or
-     * returns the first of `SEDGE_WRONG_COUNT`, if the buffer is not 50 octets long, and `SEDGE_DAMAGED`, with nothing
-     * written.
+     * Returns the program's next action, of `sedge_log_action`. The program completes this action and calls
+     * `sedge_log_done` before it calls `sedge_log_next` again. For a write, `out` receives the 50 octets of the place;
+     * otherwise it does not change. `number` receives the number of the command to be executed, or 0 for any other
+     * action. Or returns the first of `SEDGE_WRONG_COUNT`, if the buffer is not 50 octets long, and `SEDGE_DAMAGED`,
+     * with nothing written.
      */
     sedge_log_next(log: Partial<sedge_log>, out: Uint8Array, number: Partial<Box>): number;
     /**
      * Records that the action that `sedge_log_next` returned, with its number, is complete. Returns 0; or it changes
-     * nothing and returns the first of `SEDGE_DAMAGED` and `SEDGE_ABSENT`, if the action or its number is not what
+     * nothing and returns `SEDGE_DAMAGED`, or else `SEDGE_ABSENT` if the action or its number is not what
      * `sedge_log_next` returns.
      */
     sedge_log_done(log: Partial<sedge_log>, action: number, number: number): number;
     /**
-     * Takes the octets of a packet that arrived if it is the next command, and writes where the mission's octets are in
-     * them. Keep these until the command was executed, after `sedge_log_next` has returned `SEDGE_LOG_EXECUTE` with its
-     * number. Returns 0; or it changes and writes nothing, the packet is dropped, and it returns `SEDGE_DAMAGED` or the
-     * first of 1 to 7 of `sedge_log_fault`: 1 Layout, then 2 Check, then 3 Starting, 4 Busy or 5 Lost, then 6 Behind or
-     * 7 Ahead.
+     * Takes the octets of a packet that arrived, if it is the next command, and writes where the mission's octets are
+     * in them. Keep the mission's octets until the command has been executed, after `sedge_log_next` has returned
+     * `SEDGE_LOG_EXECUTE` with its number. Returns 0, or else drops the packet, changes and writes nothing, and returns
+     * `SEDGE_DAMAGED` or the first of 1 to 7 of `sedge_log_fault`: 1 Layout, then 2 Check, then 3 Starting, 4 Busy or 5
+     * Lost, then 6 Behind or 7 Ahead.
      */
     sedge_log_offer(log: Partial<sedge_log>, octets: Uint8Array, content: Partial<sedge_part>): number;
     /**
-     * Takes the octets of an order that arrived: the next action is then `SEDGE_LOG_RESTART`; or a board that has lost
-     * its record continues with the record that the order brings, if the order has the mark of this loss. Returns 0; or
-     * it changes nothing, the packet is dropped, and it returns `SEDGE_DAMAGED`, or the first of 1 to 5 of
+     * Takes the octets of an order that arrived. An order to restart makes `SEDGE_LOG_RESTART` the next action. A board
+     * that has lost its record continues with the one that the order brings, if the order has the mark of this loss.
+     * Returns 0, or else drops the packet, changes nothing, and returns `SEDGE_DAMAGED`, the first of 1 to 5 of
      * `sedge_log_fault`, or 8 to 10 of `sedge_log_fault`: 1 Layout, then 2 Check; of a restart 3 Starting, 4 Busy or 5
      * Lost, then 8 OtherBoot; of a record 9 NotLost, then 10 OtherMark.
      */
     sedge_log_obey(log: Partial<sedge_log>, octets: Uint8Array): number;
     /**
-     * Writes the status for telemetry, 27 octets, with the number of commands that wait on board to be offered, at most
-     * 255. Returns 0, or the first of `SEDGE_WRONG_COUNT`, if the buffer is not 27 octets long, and `SEDGE_DAMAGED`.
+     * Writes the status for telemetry, 27 octets, with the number of commands that wait on board to be offered; a
+     * number above 255 is written as 255. Returns 0, or the first of `SEDGE_WRONG_COUNT`, if the buffer is not 27
+     * octets long, and `SEDGE_DAMAGED`.
      */
     sedge_log_status(log: Partial<sedge_log>, waiting: number, out: Uint8Array): number;
     /**
@@ -730,8 +735,8 @@ export interface Calls {
      */
     sedge_log_new_record(out: Uint8Array): number;
     /**
-     * Reads a status that arrived. Returns 0, or the first of 1 to 2 of `sedge_log_fault`: 1 Layout if the octets are
-     * not 27, then 2 Check.
+     * Reads a status that arrived. Returns 0, or the first of 1 to 2 of `sedge_log_fault` that applies: 1 Layout if the
+     * octets are not 27, then 2 Check.
      */
     sedge_log_status_decode(octets: Uint8Array, status: Partial<sedge_board_status>): number;
     /**
@@ -750,8 +755,8 @@ export interface Calls {
     sedge_log_order_encode(order: Partial<sedge_log_order>, apid: number, count: number, out: Uint8Array, total: Partial<Box>): number;
     /**
      * Returns the history after one more command packet: CRC-32 continued over the packet's check, its last four
-     * octets. The history of no packets is 0. A ground that computes it for the packets that it sends compares it with
-     * a status.
+     * octets. The history of no packets is 0. A ground can compute it for the packets that it sends, and compare it
+     * with a status.
      */
     sedge_log_history_after(history: number, packet: Uint8Array): number;
     /** The name of a `sedge_clcw_fault`. */
@@ -776,15 +781,16 @@ export interface Calls {
     sedge_log_fault_name(fault: number): string;
     /**
      * Returns whether a `sedge_alert` shows a broken condition of the link: true for `SEDGE_ALERT_LOCKOUT`,
-     * `SEDGE_ALERT_NNR`, `SEDGE_ALERT_CLCW` and `SEDGE_ALERT_SYNCH`. In a confirmed session that was begun by check,
-     * Unlock or Set V(R), none of these alerts occurs while the conditions hold: there was a restart on board, a link
-     * that reorders or repeats frames, or a second station. Nothing is then known of what is on board: begin again, as
-     * after a reset. Returns false for the other alerts, after which the next session begins where this one got to, and
-     * for a number that is not an alert.
+     * `SEDGE_ALERT_NNR`, `SEDGE_ALERT_CLCW` and `SEDGE_ALERT_SYNCH`. None of these can occur in a confirmed session
+     * begun by check, Unlock or Set V(R) while the conditions hold. So the board restarted, the link reorders or
+     * repeats frames, or there is a second station; in other sessions, the receiver's earlier state may be the cause.
+     * Nothing is then known of what is on board: begin again, as after a reset. Returns false for any other number.
+     * After other alerts, the next session can resume where this one ended.
      */
     sedge_alert_shows_broken_condition(alert: number): boolean;
     /**
-     * What to look for after a `sedge_alert`, and how to recover, in words for an operator; "?" for any other number.
+     * Returns what to look for after a `sedge_alert`, and how to recover, in words for an operator; "?" for any other
+     * number.
      */
     sedge_alert_advice(alert: number): string;
     /** Writes the default of each parameter. A program begins with these, and sets those that differ in its mission. */

@@ -1,15 +1,15 @@
-/* Sedgechisel for programs in C: the FECF of frames, telecommand frames, space packets, control words, telemetry
- * frames, the receiver FARM-1, the sender FOP-1, packets in segments, packets in telemetry frames, and the commands of
- * a board over restarts. For C99 and later, and for C++.
+/* Sedgechisel for programs in C: the FECF of frames, telecommand frames, space packets, CLCWs, telemetry frames, the
+ * receiver FARM-1, the sender FOP-1, packets in segments, packets in telemetry frames, and the commands of a board over
+ * restarts. For C99 and later, and for C++.
  *
  * No call here allocates memory, keeps a state of its own, or calls a function of another library except memcpy,
  * memmove and memset. So a program may make each call anywhere, also from two threads at once if they do not share what
- * they write. Each call does what its crate's contract states, for every value of its arguments and of the structs
- * behind its pointers. In the proved archive this is proved, in portable C it is tested. The standards are CCSDS
+ * they write. Each call does what its contract in crates/ states, for every value of its arguments and of the structs
+ * behind its pointers. In the proved archive this is proved; in portable C it is tested. The standards are CCSDS
  * 133.0-B-2 (space packets), 132.0-B-3 (telemetry), 232.0-B-4 (telecommand) and 232.1-B-2 (COP-1).
  *
  * A caller must ensure the following, since nothing can check it:
- * - No pointer is null, and each is aligned for its type; this also holds for a pointer to no octets.
+ * - No pointer is null, and each is aligned for its type; this also holds if the count after the pointer is 0.
  * - The octets at a pointer, as many as the count after it states, may be read; if the pointer is not to const, they
  *   may also be written. The same holds for the struct or the number at a pointer to one. Octets and structs that a
  *   call reads have been written before; octets and structs that it only writes need not have been.
@@ -18,17 +18,19 @@
  *
  * What calls return:
  * - A uint8_t is a number of the one enumeration that the call's comment names, or of sedge_status, which all calls
- *   share. It is SEDGE_OK or the first fault that applies, and a call that returns a fault has written nothing. Six
- *   calls return something other than a fault: a verdict (sedge_farm_ad), a state (sedge_farm_state), what is sent on
- *   the link next (sedge_fop_next), an alert (sedge_fop_clcw, sedge_fop_tick), and what a board does next
- *   (sedge_log_next). Those of the six that write something do so whatever they return, except SEDGE_ABSENT,
- *   SEDGE_WRONG_COUNT and SEDGE_DAMAGED.
- * - A bool states whether something holds (sedge_check_holds), or whether the call has written (sedge_check_append,
- *   sedge_tm_packet, sedge_map_packet). If it is false, nothing is written.
- * - A uint16_t is the check of octets (sedge_check), a uint32_t a history (sedge_log_history_after), and a struct
- *   sedge_text a word.
+ *   share. It is SEDGE_OK or the first fault that applies, and a call that returns a fault has written nothing; only
+ *   sedge_gap_check_see also records a packet if it returns SEDGE_ABSENT.
+ * - Six calls return something other than a fault: a verdict (sedge_farm_ad), a state (sedge_farm_state), what is sent
+ *   on the link next (sedge_fop_next), an alert (sedge_fop_clcw, sedge_fop_tick), and what a board does next
+ *   (sedge_log_next). If one of these returns SEDGE_ABSENT, SEDGE_WRONG_COUNT or SEDGE_DAMAGED, it has written nothing.
+ *   Otherwise it has written what its comment names, whatever it returns.
+ * - A bool states whether something holds (sedge_check_holds, sedge_alert_shows_broken_condition), or whether the call
+ *   has written (sedge_check_append, sedge_tm_packet, sedge_map_packet). If it is false, nothing is written.
+ * - A size_t is a number of frames (sedge_tc_frames, sedge_tm_extractor_frames), a uint16_t the check of octets
+ *   (sedge_check), a uint32_t a history (sedge_log_history_after), a struct sedge_text a word, and a struct
+ *   sedge_advice a sentence.
  *
- * SEDGE_CHECK marks each call whose result can mean more than that a struct is damaged: a compiler warns if a program
+ * SEDGE_CHECK marks each call whose result can mean more than that a struct is damaged: gcc and clang warn if a program
  * ignores the result. In C each number of an enumeration is also a constant of an unsigned type, at the end of this
  * file, so that comparing it with a result or a field needs no conversion (docs/REVIEW.md, "MISRA C"). */
 #ifndef SEDGECHISEL_H
@@ -72,20 +74,22 @@ struct sedge_text {
     char text[20];
 };
 
-/* A sentence of at most 159 characters, with zeros after it; printed like a word. */
+/* A sentence of at most 159 characters, with zeros after it. Print it as you print a word. */
 struct sedge_advice {
     char text[160];
 };
 
-/* The version of the library. */
+/* Returns the version of the library. */
 struct sedge_text sedge_version(void);
 
 /* The numbers that all kinds of calls share. */
 enum sedge_status {
     SEDGE_OK = 0,
-    SEDGE_ABSENT = 253,      /* there are fewer segments, or a CLCW states nothing about the units */
+    SEDGE_ABSENT = 253,      /* there is no such segment or action, no earlier packet of the APID, or a CLCW states
+                              * nothing about the units */
     SEDGE_WRONG_COUNT = 254, /* not the number of octets that the call needs */
-    SEDGE_DAMAGED = 255      /* a struct has a value that no sender, receiver or MAP has, or one outside its enum */
+    SEDGE_DAMAGED = 255      /* a struct has a value that no sender, receiver or MAP can have, or one outside its
+                              * enumeration */
 };
 
 /* The position of data in the octets that were read: count octets, the first at octets + from. */
@@ -94,13 +98,13 @@ struct sedge_part {
     size_t count;
 };
 
-/* ---- The check: generator x^16 + x^12 + x^5 + 1, register preset to ones, no inversion at the end (232.0-B-4,
- * 4.1.4.2; 132.0-B-3, 4.1.6.2). ---- */
+/* ---- The check, a CRC of 16 bits that frames have as their FECF: generator x^16 + x^12 + x^5 + 1, register preset to
+ * ones, no inversion at the end (232.0-B-4, 4.1.4.2; 132.0-B-3, 4.1.6.2). ---- */
 
 /* Returns the check of the octets. */
 uint16_t sedge_check(const uint8_t *octets, size_t count);
 
-/* Sets the last two octets to the check of those before them, and returns true; for fewer than two octets, returns
+/* Sets the last two octets to the check of those before them, and returns true. For fewer than two octets, returns
  * false and writes nothing. */
 SEDGE_CHECK bool sedge_check_append(uint8_t *octets, size_t count);
 
@@ -108,8 +112,9 @@ SEDGE_CHECK bool sedge_check_append(uint8_t *octets, size_t count);
  * 4.1.4.3). */
 SEDGE_CHECK bool sedge_check_holds(const uint8_t *octets, size_t count);
 
-/* ---- The communications link control word, of four octets (232.0-B-4, 4.2). ---- */
+/* ---- The communications link control word (CLCW), of four octets (232.0-B-4, 4.2). ---- */
 
+/* Why a CLCW is refused. */
 enum sedge_clcw_fault {
     SEDGE_CLCW_KIND = 1,    /* the control word type is not 0 (4.2.1.2) */
     SEDGE_CLCW_VERSION = 2, /* the version number is not 00 (4.2.1.3) */
@@ -137,11 +142,11 @@ struct sedge_clcw {
 };
 
 /* Reads four octets as a CLCW of any virtual channel: compare its vcid with your own before you use its value or its
- * flags (sedge_fop_clcw does so itself). Returns 0, or the first of 1 to 4 of sedge_clcw_fault, or SEDGE_WRONG_COUNT if
- * the octets are not four. */
+ * flags (sedge_fop_clcw does so itself). Returns 0, or the first of 1 to 4 of sedge_clcw_fault that applies, or
+ * SEDGE_WRONG_COUNT if the octets are not four. */
 SEDGE_CHECK uint8_t sedge_clcw_decode(const uint8_t *octets, size_t count, struct sedge_clcw *word);
 
-/* Writes a CLCW as four octets. Returns 0, or SEDGE_CLCW_RANGE, or SEDGE_WRONG_COUNT if the buffer is not four octets
+/* Writes a CLCW as four octets. Returns 0, SEDGE_CLCW_RANGE, or SEDGE_WRONG_COUNT if the buffer is not four octets
  * long. */
 SEDGE_CHECK uint8_t sedge_clcw_encode(const struct sedge_clcw *word, uint8_t *out, size_t room);
 
@@ -177,8 +182,8 @@ enum sedge_farm_mode {
 };
 
 /* A receiver, which the caller keeps. Begin it with sedge_farm_open; its fields may be read at any time. Each call
- * checks that the fields are those of a receiver: the width even, 2 to 254; the flags 0 or 1; the retransmit flag 1 if
- * the wait flag is; FARM-B 0 to 3. If they are not, it returns SEDGE_DAMAGED and changes nothing. */
+ * checks that a receiver can have these fields: the width is even, 2 to 254; the flags are 0 or 1; the retransmit flag
+ * is 1 if the wait flag is; FARM-B is 0 to 3. If it cannot, the call returns SEDGE_DAMAGED and changes nothing. */
 struct sedge_farm {
     uint8_t width;      /* the width of both windows together; each is half of it */
     uint8_t vr;         /* V(R), the number of the next frame to be accepted */
@@ -192,8 +197,8 @@ struct sedge_farm {
  * SEDGE_COP_WIDTH. */
 SEDGE_CHECK uint8_t sedge_farm_open(struct sedge_farm *farm, uint8_t width, uint8_t vr);
 
-/* Judges a Type-AD frame with the number n; buffer_free states whether there is room for its data. Returns its verdict,
- * of sedge_verdict: if it is SEDGE_ACCEPTED, pass on the data. Or returns SEDGE_DAMAGED. */
+/* Judges a Type-AD frame whose number N(S) is n; buffer_free states whether there is room for its data. Returns the
+ * verdict, of sedge_verdict, or SEDGE_DAMAGED. If the verdict is SEDGE_ACCEPTED, pass on the frame's data. */
 SEDGE_CHECK uint8_t sedge_farm_ad(struct sedge_farm *farm, uint8_t n, bool buffer_free);
 
 /* Counts a Type-BD frame; pass on its data in every state. Returns 0, or SEDGE_DAMAGED. */
@@ -202,26 +207,26 @@ uint8_t sedge_farm_bd(struct sedge_farm *farm);
 /* Executes the control command Unlock. Returns 0, or SEDGE_DAMAGED. */
 uint8_t sedge_farm_unlock(struct sedge_farm *farm);
 
-/* Executes the control command Set V(R); in Lockout it is only counted, and V(R) does not change. Returns 0, or
- * SEDGE_DAMAGED. */
+/* Executes the control command Set V(R); in Lockout it is only counted in FARM-B, and V(R) does not change. Returns 0,
+ * or SEDGE_DAMAGED. */
 uint8_t sedge_farm_set_vr(struct sedge_farm *farm, uint8_t vr);
 
 /* Records that there is room on board again. Returns 0, or SEDGE_DAMAGED. */
 uint8_t sedge_farm_released(struct sedge_farm *farm);
 
-/* Writes the CLCW (232.0-B-4, 4.2) that reports the receiver's present state, for the virtual channel vcid; the
- * flags for the radio channel and bit lock are 0. Returns 0, or SEDGE_DAMAGED, or SEDGE_CLCW_RANGE if vcid is not
- * below 64. */
+/* Writes the CLCW (232.0-B-4, 4.2) that reports the receiver's present state for the virtual channel vcid; the flags
+ * for the radio channel and bit lock are 0. Returns 0, or SEDGE_DAMAGED, or SEDGE_CLCW_RANGE if vcid is not below
+ * 64. */
 SEDGE_CHECK uint8_t sedge_farm_control_word(const struct sedge_farm *farm, uint8_t vcid, struct sedge_clcw *word);
 
-/* Returns the state, of sedge_farm_mode, or SEDGE_DAMAGED. */
+/* Returns the receiver's state, of sedge_farm_mode, or SEDGE_DAMAGED. */
 SEDGE_CHECK uint8_t sedge_farm_state(const struct sedge_farm *farm);
 
 /* ---- The sender FOP-1 of one virtual channel (232.1-B-2, section 5, in the profile of docs/PROFILE.md). ----
  *
- * The sender keeps numbers; its caller keeps the units, which are the data of frames. One unit waits to be sent for the
- * first time, and those that are sent and not acknowledged have the numbers from NN(R) to V(S) - 1, modulo 256, at most
- * 127 of them. So 256 slots, one for each number, are always enough:
+ * The sender keeps numbers; its caller keeps the units, which are the data of frames. At most one unit waits to be sent
+ * for the first time. The units that were sent and are not acknowledged, at most 127, have the numbers from NN(R) to
+ * V(S) - 1, modulo 256. So 256 slots, one for each number, are always enough:
  *
  *     static struct unit waiting, sent[256];
  *     ...
@@ -238,9 +243,10 @@ SEDGE_CHECK uint8_t sedge_farm_state(const struct sedge_farm *farm);
  *     uint8_t released;
  *     uint8_t alert = sedge_fop_clcw(&fop, CHANNEL, &word, &released);
  *
- * A CLCW acknowledges the oldest units sent, as many as the call writes to released; their slots may be used again. An
- * alert (from a CLCW, from a tick, or by sedge_fop_terminate) discards all units, also the one that waits; nothing else
- * does. After an alert, sedge_fop_accepted_beyond shows from a later CLCW which of them were accepted on board. ---- */
+ * A CLCW acknowledges the oldest units sent, as many as sedge_fop_clcw writes to released; their slots may be used
+ * again. An alert (from a CLCW, from a tick, or by sedge_fop_terminate) discards all units, including the one that
+ * waits; nothing else does. After an alert, sedge_fop_accepted_beyond shows from a later CLCW which of the units sent
+ * were accepted on board. ---- */
 
 /* The sender's state (5.1.2). */
 enum sedge_fop_state {
@@ -264,12 +270,13 @@ enum sedge_control {
 /* Why the sender has given up (5.2.5). */
 enum sedge_alert {
     SEDGE_NO_ALERT = 0,
-    SEDGE_ALERT_LOCKOUT = 1,   /* a report has the lockout flag */
-    SEDGE_ALERT_NNR = 2,       /* a report's value is not from NN(R) to V(S) */
-    SEDGE_ALERT_CLCW = 3,      /* a report has the wait flag without the retransmit flag */
-    SEDGE_ALERT_SYNCH = 4,     /* a report asks to repeat what was not sent, or stops asking before it got any of it */
-    SEDGE_ALERT_LIMIT = 5,     /* a report asks for units again, and the transmission limit is 1 */
-    SEDGE_ALERT_TIMER = 6,     /* the timer has ended, and units may not be sent again */
+    SEDGE_ALERT_LOCKOUT = 1,   /* a CLCW has the lockout flag */
+    SEDGE_ALERT_NNR = 2,       /* a CLCW's value is not from NN(R) to V(S) */
+    SEDGE_ALERT_CLCW = 3,      /* a CLCW has the wait flag without the retransmit flag */
+    SEDGE_ALERT_SYNCH = 4,     /* a CLCW requests retransmission when there is nothing to retransmit, or no longer
+                                * requests it before anything was acknowledged */
+    SEDGE_ALERT_LIMIT = 5,     /* a CLCW requests retransmission, and the transmission limit is 1 */
+    SEDGE_ALERT_TIMER = 6,     /* the timer has expired, and nothing may be sent again */
     SEDGE_ALERT_TERMINATED = 7 /* sedge_fop_terminate */
 };
 
@@ -285,16 +292,16 @@ enum sedge_next {
 /* A sender, which the caller keeps. Begin it with sedge_fop_open; its fields may be read at any time. Each call checks
  * that a sender can have these fields. If it cannot, the call returns SEDGE_DAMAGED and changes nothing. The
  * conditions:
- * - the ranges below; V(S) - NN(R), modulo 256, is at most room, and in S1 to S5 it is the number of units sent;
- * - only S1 to S3 have sent units, S2 and S3 at least one; in S6 no unit waits;
- * - the timer runs in S1 to S3 exactly while there are sent units, in S4, and in S5 once the command is sent; in S6 it
- *   is off;
+ * - each field is in its range below; V(S) - NN(R), modulo 256, is at most room, and in S1 to S5 it is equal to sent;
+ * - sent is 0 except in S1 to S3, and at least 1 in S2 and S3; in S6 no unit waits;
+ * - the timer runs in S1 to S3 exactly while sent is above 0, in S4 always, and in S5 once the command is sent; in S6
+ *   it is off;
  * - only S5 has a control command, and always one; the number of Set V(R) is V(S).
  * The transmission count may be any number from 1. A sender with such fields always continues: while it awaits a CLCW,
  * the timer runs or a command is due. */
 struct sedge_fop {
     uint16_t timer;  /* the timer's value in ticks, at least 1 */
-    uint16_t ticks;  /* the ticks that are left while the timer runs, and 0 while it is off */
+    uint16_t ticks;  /* the ticks that are left while the timer runs, or 0 while it is off */
     uint8_t room;    /* half the receiver's window width, 1 to 127: the maximum number of units sent and not
                       * acknowledged */
     uint8_t state;   /* of sedge_fop_state */
@@ -302,21 +309,21 @@ struct sedge_fop {
     uint8_t nn;      /* NN(R), the number that the receiver was last known to expect */
     uint8_t waiting; /* whether a unit waits to be sent for the first time, 0 or 1 */
     uint8_t sent;    /* the number of units sent and not acknowledged, at most room */
-    uint8_t due;     /* the number of these, the last ones, that are due to be retransmitted */
+    uint8_t due;     /* how many of these, the last ones, are due to be retransmitted */
     uint8_t window;  /* the window K, 1 to room */
     uint8_t limit;   /* the transmission limit, at least 1 */
     uint8_t count;   /* the transmission count, at least 1 */
     uint8_t control; /* of sedge_control */
-    uint8_t vr;      /* the number of the control command Set V(R), and 0 if there is no such command */
+    uint8_t vr;      /* the number of the control command Set V(R), or 0 if there is no such command */
 };
 
-/* Begins a sender in state S6 with V(S) and NN(R) 0, for a receiver of this window width, with the window K, the
+/* Begins a sender in state S6 with V(S) = NN(R) = 0, for a receiver of this window width, with the window K, the
  * transmission limit and the timer's value in ticks. Returns 0, or the first of SEDGE_COP_WIDTH (not even, 2 to 254),
  * SEDGE_COP_WINDOW (not 1 to half the width), SEDGE_COP_LIMIT (0) and SEDGE_COP_TIMER (0). */
 SEDGE_CHECK uint8_t sedge_fop_open(struct sedge_fop *fop, uint8_t width, uint8_t window, uint8_t limit, uint16_t timer);
 
-/* The directives (5.2.4): what each does, and when it is refused, with its sedge_cop_fault. The calls by name are
- * generated from these and their notes, in each language. */
+/* The directives (5.2.4). The note of each states what it does, and after "or" the number of the sedge_cop_fault with
+ * which it is refused, and when. The calls by name are generated from these notes, in each language. */
 enum sedge_directive {
     SEDGE_INIT_WITHOUT_CHECK = 1, /* initiate without CLCW check: S6 to S1; or 8 unless in S6 */
     SEDGE_INIT_WITH_CHECK = 2,    /* initiate with CLCW check: S6 to S4, until a CLCW agrees; or 8 unless in S6 */
@@ -331,12 +338,12 @@ enum sedge_directive {
     SEDGE_SET_TIMER = 9           /* set the timer to value, in ticks; or 4 if it is 0 */
 };
 
-/* Gives the sender a directive, of sedge_directive, with its value; a directive without a value ignores it. Returns 0;
- * or SEDGE_COP_WRONG_STATE; or for a value out of range SEDGE_COP_WINDOW, SEDGE_COP_LIMIT or SEDGE_COP_TIMER; or
- * SEDGE_DAMAGED, also for a number that is not a directive, and for a V(R) or V(S) above 255. */
+/* Gives the sender a directive, of sedge_directive, with its value; a directive without a value ignores it. Returns 0,
+ * or SEDGE_COP_WRONG_STATE, or for a value out of range SEDGE_COP_WINDOW, SEDGE_COP_LIMIT or SEDGE_COP_TIMER. Returns
+ * SEDGE_DAMAGED also for a number that is not a directive, and for a V(R) or V(S) above 255. */
 SEDGE_CHECK uint8_t sedge_fop_directive(struct sedge_fop *fop, uint8_t directive, uint16_t value);
 
-/* Each directive by its name. Up to 0.2 these were calls of the library; they are sedge_fop_directive now. */
+/* Each directive by its name. Up to 0.2 these were calls of the library; now they call sedge_fop_directive. */
 static inline SEDGE_CHECK uint8_t sedge_fop_init_without_check(struct sedge_fop *fop) {
     return sedge_fop_directive(fop, SEDGE_INIT_WITHOUT_CHECK, 0);
 }
@@ -366,42 +373,44 @@ static inline SEDGE_CHECK uint8_t sedge_fop_set_timer(struct sedge_fop *fop, uin
 }
 
 /* Submits a unit to be sent under sequence control. The unit waits, and the caller keeps it. Returns 0, or
- * SEDGE_DAMAGED, or SEDGE_COP_NOT_OPEN in S6, or SEDGE_COP_BUSY while another one waits. */
+ * SEDGE_DAMAGED, or SEDGE_COP_NOT_OPEN in S6, or SEDGE_COP_BUSY while another unit waits. */
 SEDGE_CHECK uint8_t sedge_fop_submit(struct sedge_fop *fop);
 
-/* Takes what is to be sent on the link next. Returns one of sedge_next, and writes its number, or 0 if it has none; or
- * returns SEDGE_DAMAGED, with nothing written. */
+/* Takes what is to be sent on the link next. Returns what this is, of sedge_next, and writes its number, or 0 if it has
+ * none; or returns SEDGE_DAMAGED, with nothing written. */
 SEDGE_CHECK uint8_t sedge_fop_next(struct sedge_fop *fop, uint8_t *number);
 
 /* Takes a CLCW for the sender of the virtual channel vcid. The call compares this number with the CLCW's vcid; the
  * caller has already compared the scid of the telemetry frame that carried the CLCW. Returns the alert, of sedge_alert,
- * and writes the number of units that are acknowledged, the oldest of those sent; or with nothing written and nothing
- * changed it returns the first of SEDGE_ABSENT, if the CLCW reports on another channel, and SEDGE_DAMAGED. */
+ * and writes how many units are acknowledged, the oldest of those sent. Or returns the first of SEDGE_ABSENT, if the
+ * CLCW reports on another channel, and SEDGE_DAMAGED, with nothing written and nothing changed. */
 SEDGE_CHECK uint8_t sedge_fop_clcw(struct sedge_fop *fop, uint8_t vcid, const struct sedge_clcw *word,
                                    uint8_t *released);
 
 /* Counts a tick of the clock. Returns the alert, of sedge_alert, or SEDGE_DAMAGED. */
 SEDGE_CHECK uint8_t sedge_fop_tick(struct sedge_fop *fop);
 
-/* Writes how many of the units that were sent and not acknowledged were accepted on board when a CLCW of this value was
- * made. They are the oldest ones, with the numbers from NN(R) to value - 1 (5.1). The call does so after an alert too,
- * until V(S) is set or an initiation begins. It uses only the numbers: after an alert that shows a broken condition
- * nothing is known of these units, whatever the call writes. If V(S) is NN(R), there are no such units, and the call
- * writes 0 for every value. Returns 0, or SEDGE_DAMAGED, or SEDGE_ABSENT if there are such units and the value does not
- * lie from NN(R) to V(S), so that nothing is known of them; nothing is written then. */
+/* Writes how many of the units that were sent and not acknowledged were accepted on board when a CLCW with this value
+ * was made. They are the oldest ones, with the numbers from NN(R) to value - 1 (5.1). The call does so after an alert
+ * too, until V(S) is set or an initiation begins. It uses only the numbers: after an alert that shows a broken
+ * condition, nothing is known of these units, whatever the call writes. If V(S) is NN(R), there are no such units, and
+ * the call writes 0 for every value. Returns 0, or SEDGE_DAMAGED, or SEDGE_ABSENT if there are such units and the value
+ * does not lie from NN(R) to V(S): nothing is then known of them, and nothing is written. */
 SEDGE_CHECK uint8_t sedge_fop_accepted_beyond(const struct sedge_fop *fop, uint8_t value, uint8_t *accepted);
 
-/* Writes the same number for a sender with this NN(R) and V(S). Returns 0, or SEDGE_ABSENT if nothing is known. */
+/* Writes what sedge_fop_accepted_beyond writes for a sender with this NN(R) and this V(S). Returns 0, or SEDGE_ABSENT
+ * if nothing is known. */
 SEDGE_CHECK uint8_t sedge_accepted_beyond(uint8_t nn, uint8_t vs, uint8_t value, uint8_t *accepted);
 
 /* ---- Telecommand transfer frames of at most 1,024 octets (232.0-B-4, 4.1), with or without their FECF. ---- */
 
+/* Why a telecommand frame is refused. */
 enum sedge_tc_fault {
     SEDGE_TC_SHORT = 1,         /* fewer than the 5 octets of the header */
     SEDGE_TC_VERSION = 2,       /* the version number is not 00 (4.1.2.2) */
     SEDGE_TC_RESERVED_TYPE = 3, /* the control command flag without the bypass flag (4.1.2.3) */
     SEDGE_TC_SPARE = 4,         /* the spare bits are not 00 (4.1.2.4) */
-    SEDGE_TC_LENGTH = 5,        /* the declared total is not the number of octets, or too small (4.1.2.7) */
+    SEDGE_TC_LENGTH = 5,        /* the declared total is not the number of octets, or is too small (4.1.2.7) */
     SEDGE_TC_CHECK = 6,         /* the last two octets are not the check of those before them (4.1.4) */
     SEDGE_TC_BYPASS_NUMBER = 7, /* a frame with the bypass flag has a number other than 0 (4.1.2.8) */
     SEDGE_TC_EMPTY_DATA = 8,    /* no octet in the data field, or only a segment header */
@@ -431,8 +440,8 @@ enum sedge_command {
     SEDGE_SET_VR = 1  /* expect this number next: the octets 82 00 and the number */
 };
 
-/* A frame without its data. Reading a frame sets the fields that its kind does not have to 0; writing one ignores
- * them. */
+/* A frame without its data. A kind of frame has only some of these fields: reading a frame sets the others to 0, and
+ * writing one ignores them. */
 struct sedge_tc_frame {
     uint16_t scid;   /* the spacecraft identifier, below 1,024 */
     uint8_t vcid;    /* the virtual channel identifier, below 64 */
@@ -444,35 +453,36 @@ struct sedge_tc_frame {
     uint8_t vr;      /* Type-BC, Set V(R): the number */
 };
 
-/* Reads all of the octets as one frame, which ends with its FECF if checked is true, and writes where the data after
- * the segment header are; for a control frame, which has none, the part is {0, 0}. The frame may be of any spacecraft
- * and virtual channel: compare scid and vcid with your own before you pass the frame to a receiver. Returns 0, or the
- * first of 1 to 9 of sedge_tc_fault. */
+/* Reads all of the octets as one frame, which ends with its FECF if checked is true. Writes the frame's fields, and
+ * where the data after the segment header are: {0, 0} for a control frame, which has none. The frame may be of any
+ * spacecraft and virtual channel: compare scid and vcid with your own before you pass the frame to a receiver. Returns
+ * 0, or the first of 1 to 9 of sedge_tc_fault that applies. */
 SEDGE_CHECK uint8_t sedge_tc_decode(const uint8_t *octets, size_t count, bool checked, struct sedge_tc_frame *frame,
                                     struct sedge_part *data);
 
 /* Writes the frame with these data (ignored for a control frame) to the beginning of out, with its FECF if checked is
- * true, and its length in octets, 6 to 1,024, to total. Returns 0, or the first of SEDGE_DAMAGED (the kind, the segment
- * flags or the command is not in its enumeration), SEDGE_TC_FIELD_RANGE and SEDGE_TC_ROOM. */
+ * true. Writes the frame's length in octets, 6 to 1,024, to total. Returns 0, or the first of SEDGE_DAMAGED (the kind,
+ * the segment flags or the command is not in its enumeration), SEDGE_TC_FIELD_RANGE and SEDGE_TC_ROOM. */
 SEDGE_CHECK uint8_t sedge_tc_encode(const struct sedge_tc_frame *frame, const uint8_t *data, size_t data_count,
                                     bool checked, uint8_t *out, size_t room, size_t *total);
 
-/* Writes the length of the frame that begins with these octets, from its first 5 octets only; use it to cut a stream
- * (4.1.2.7). Returns 0, or SEDGE_TC_SHORT for fewer than 5 octets, or SEDGE_TC_LENGTH if it declares fewer than 5, or
- * with the FECF fewer than 7. */
+/* Reads the length of the frame that begins with these octets from its first 5 octets, and writes it to total; use it
+ * to cut a stream (4.1.2.7). Returns 0, or SEDGE_TC_SHORT for fewer than 5 octets, or SEDGE_TC_LENGTH if the frame
+ * declares fewer than 5 octets, or with its FECF fewer than 7. */
 SEDGE_CHECK uint8_t sedge_tc_declared(const uint8_t *octets, size_t count, bool checked, size_t *total);
 
 /* Reads the frames that follow one another in the octets, each as long as it declares (4.1.2.7), and writes a record of
- * 12 octets for each to out, in order. A record contains the number of the frame's octets, what sedge_tc_decode returns
- * for it, and the scid, vcid, kind, n, flags, map, command and vr that this call writes, or 0 for each if it refuses
- * the frame. The number and the scid have two octets, the lower one first. The data of a Type-AD or a Type-BD frame
- * begin 6 octets after its first. Stops when out has no room for a record, or when no whole frame follows. Call
- * sedge_tc_declared with the octets there to find out whether their length is refused. Writes the number of octets of
- * all these frames to total. Returns the number of frames. */
+ * 12 octets for each to out, in order. A record contains the number of the frame's octets, the number that
+ * sedge_tc_decode returns for the frame, and the scid, vcid, kind, n, flags, map, command and vr that it writes, or 0
+ * for each of these if it refuses the frame. The number of octets and the scid take two octets each, the lower one
+ * first. The data of a Type-AD or Type-BD frame begin 6 octets after the frame does. Stops when out has no room for a
+ * record, or when no whole frame follows; call sedge_tc_declared with the octets there to find out whether their length
+ * is refused. Writes the number of octets of all these frames to total. Returns the number of frames. */
 size_t sedge_tc_frames(const uint8_t *octets, size_t count, bool checked, uint8_t *out, size_t room, size_t *total);
 
 /* ---- Space packets of 7 to 65,542 octets (133.0-B-2, 4.1). ---- */
 
+/* Why a space packet is refused. */
 enum sedge_packet_fault {
     SEDGE_PACKET_TRUNCATED = 1,           /* fewer than the 6 octets of the header, or fewer than it declares */
     SEDGE_PACKET_VERSION = 2,             /* the version number is not 000 (4.1.3.2) */
@@ -505,27 +515,27 @@ struct sedge_packet {
     uint8_t flags;     /* the sequence flags, of sedge_sequence_flags (4.1.3.4.2) */
 };
 
-/* Reads the packet at the beginning of the octets, and writes where its data field is. The packet ends where its data
- * field ends, and octets after it are ignored. Returns 0, or the first of 1 to 3 of sedge_packet_fault
- * (SEDGE_PACKET_TRUNCATED for fewer octets than declared comes last). */
+/* Reads the packet at the beginning of the octets, and writes its fields and where its data field is. The packet ends
+ * with its data field, and octets after it are ignored. Returns 0, or the first of 1 to 3 of sedge_packet_fault that
+ * applies; the declared length (SEDGE_PACKET_TRUNCATED) is checked last. */
 SEDGE_CHECK uint8_t sedge_packet_decode(const uint8_t *octets, size_t count, struct sedge_packet *packet,
                                         struct sedge_part *data);
 
-/* Writes the packet with this data field to the beginning of out, and its length in octets, 6 more than its data, to
- * total. Returns 0, or the first of SEDGE_DAMAGED (the kind is not in its enumeration, or the secondary header flag is
- * above 1), SEDGE_PACKET_FIELD_RANGE and SEDGE_PACKET_ROOM. */
+/* Writes the packet with this data field to the beginning of out, and its length in octets, 6 more than its data have,
+ * to total. Returns 0, or the first of SEDGE_DAMAGED (the kind is not in its enumeration, or the secondary header flag
+ * is above 1), SEDGE_PACKET_FIELD_RANGE and SEDGE_PACKET_ROOM. */
 SEDGE_CHECK uint8_t sedge_packet_encode(const struct sedge_packet *packet, const uint8_t *data, size_t data_count,
                                         uint8_t *out, size_t room, size_t *total);
 
-/* Writes the length of the packet that begins with these octets, from its first 6 octets only; use it to cut a stream
- * (4.1.3.5). Returns 0, or SEDGE_PACKET_TRUNCATED for fewer than 6 octets, or SEDGE_PACKET_VERSION, or
+/* Reads the length of the packet that begins with these octets from its first 6 octets, and writes it to total; use it
+ * to cut a stream (4.1.3.5). Returns 0, or SEDGE_PACKET_TRUNCATED for fewer than 6 octets, or SEDGE_PACKET_VERSION, or
  * SEDGE_PACKET_IDLE_WITH_SECONDARY. */
 SEDGE_CHECK uint8_t sedge_packet_declared(const uint8_t *octets, size_t count, size_t *total);
 
-/* A check of the sequence counts of all application processes, which shows missing packets (133.0-B-2, 4.1.3.4.3).
- * Begin it with sedge_gap_check_open; its field may be read at any time. */
+/* A check for gaps in the sequence counts of all application processes, which shows missing packets (133.0-B-2,
+ * 4.1.3.4.3). Begin it with sedge_gap_check_open; its field may be read at any time. */
 struct sedge_gap_check {
-    uint16_t last[2048]; /* by APID; above 16,383 if no packet of the APID was seen */
+    uint16_t last[2048]; /* the last count that was seen, by APID; above 16,383 if no packet of the APID was seen */
 };
 
 /* Begins a check of sequence counts that has seen no packet. */
@@ -533,15 +543,16 @@ void sedge_gap_check_open(struct sedge_gap_check *check);
 
 /* Records a packet of this APID with this count, as sedge_packet_decode writes them, and writes the number of packets
  * missing before it to missing: (count - last - 1) modulo 16,384. Returns 0, or SEDGE_ABSENT for the first packet of
- * the APID, which is recorded too; or SEDGE_PACKET_FIELD_RANGE if apid is not below 2,048 or count not below 16,384. */
+ * the APID, which is recorded too, or SEDGE_PACKET_FIELD_RANGE if apid is not below 2,048 or count not below 16,384. */
 SEDGE_CHECK uint8_t sedge_gap_check_see(struct sedge_gap_check *check, uint16_t apid, uint16_t count,
                                         uint16_t *missing);
 
 /* ---- Telemetry transfer frames of 16 to 2,048 octets, with an operational control field and an FECF (132.0-B-3,
  * 4.1). ---- */
 
+/* Why a telemetry frame, or a packet for one, is refused. */
 enum sedge_tm_fault {
-    SEDGE_TM_LENGTH = 1,      /* not length octets, or a length outside 16 to 2,048 */
+    SEDGE_TM_LENGTH = 1,      /* not as many octets as length, or a length outside 16 to 2,048 */
     SEDGE_TM_VERSION = 2,     /* the version number is not 00 (4.1.2.2) */
     SEDGE_TM_CHECK = 3,       /* the last two octets are not the check of those before them (4.1.6) */
     SEDGE_TM_STATUS = 4,      /* a flag of the data field status is 1, or its identifier is not 11 (4.1.2.7) */
@@ -554,9 +565,9 @@ enum sedge_tm_fault {
                                * a length outside 16 to 2,048 */
 };
 
-/* The first header pointers that are not a place (4.1.2.7.6). */
+/* The first header pointers that do not point to a packet (4.1.2.7.6). */
 enum sedge_pointer {
-    SEDGE_POINTER_ONLY_IDLE = 2046, /* there are only idle data in the data field */
+    SEDGE_POINTER_ONLY_IDLE = 2046, /* the data field contains only idle data */
     SEDGE_POINTER_NO_START = 2047   /* no packet starts in the data field */
 };
 
@@ -570,29 +581,29 @@ struct sedge_tm_frame {
     uint8_t ocf[4];   /* the operational control field, as sedge_clcw_encode writes it (4.1.5) */
 };
 
-/* Reads all of the octets as one frame of this length, and writes where its data are. The frame may be of any
- * spacecraft and virtual channel: compare scid and vcid with your own before you pass the frame to an extractor, and
+/* Reads all of the octets as one frame of this length, and writes its fields and where its data are. The frame may be
+ * of any spacecraft and virtual channel: compare scid and vcid with your own before you pass it to an extractor, and
  * scid before you use its CLCW. Returns 0, or the first of 1 to 6 of sedge_tm_fault. */
 SEDGE_CHECK uint8_t sedge_tm_decode(const uint8_t *octets, size_t count, size_t length, struct sedge_tm_frame *frame,
                                     struct sedge_part *data);
 
 /* Writes the frame with these data and its FECF to the beginning of out, and its length in octets, 12 more than its
- * data, to total. Returns 0, or the first of SEDGE_TM_FIELD_RANGE and SEDGE_TM_ROOM. */
+ * data have, to total. Returns 0, or the first of SEDGE_TM_FIELD_RANGE and SEDGE_TM_ROOM. */
 SEDGE_CHECK uint8_t sedge_tm_encode(const struct sedge_tm_frame *frame, const uint8_t *data, size_t data_count,
                                     uint8_t *out, size_t room, size_t *total);
 
 /* ---- Packets in telemetry frames, for one virtual channel (132.0-B-3, 4.2 and 4.3): built into frames and extracted
- * from them. The caller keeps a struct and its memory, which no other struct uses. ---- */
+ * from them. The caller keeps the struct and its memory; no two structs may use the same memory. ---- */
 
 /* A builder of the frames of one virtual channel, all of one length. Begin it with sedge_tm_builder_open; its fields
  * may be read at any time. The memory holds the octets that are to be sent: the rest of the packet that was begun, and
- * then the packets that are queued. Each call checks that the fields are those of a builder and that these octets are
- * in the memory. sedge_tm_builder_build also checks that the octets that its frame takes are whole packets. If a check
+ * then the packets that are queued. Each call checks that a builder can have these fields, and that these octets are in
+ * the memory. sedge_tm_builder_build also checks that the octets that its frame takes are whole packets. If a check
  * fails, the call returns SEDGE_DAMAGED and changes nothing. No call reads the packets that wait after those octets. */
 struct sedge_tm_builder {
     size_t from;        /* where the octets that are to be sent are in the memory */
     size_t count;       /* the number of octets that are to be sent */
-    size_t begun;       /* the number of these, the first ones, that are left of the packet that was begun */
+    size_t begun;       /* how many of these, the first ones, are left of the packet that was begun */
     uint16_t scid;      /* the spacecraft identifier, below 1,024 */
     uint16_t length;    /* the length of a frame in octets, 16 to 2,048 */
     uint8_t vcid;       /* the virtual channel identifier, below 8 */
@@ -604,30 +615,31 @@ struct sedge_tm_builder {
  * below 1,024, vcid not below 8, or length not from 16 to 2,048. */
 SEDGE_CHECK uint8_t sedge_tm_builder_open(struct sedge_tm_builder *builder, uint16_t scid, uint8_t vcid, size_t length);
 
-/* Queues a packet, all of its octets, after those that are to be sent, which it does not read. Returns 0, or the first
- * of SEDGE_DAMAGED (no builder has the numbers of the struct, or its octets are not in the memory),
- * SEDGE_TM_NOT_A_PACKET (not exactly one packet, or an idle one) and SEDGE_TM_MEMORY (the octets to be sent and the
- * packet do not fit in the memory). */
+/* Queues a packet, given by all of its octets, after the octets that are already to be sent; those are not read.
+ * Returns 0, or the first of SEDGE_DAMAGED (no builder has the numbers of the struct, or its octets are not in the
+ * memory), SEDGE_TM_NOT_A_PACKET (not exactly one packet, or an idle one) and SEDGE_TM_MEMORY (the octets to be sent
+ * and the packet do not fit in the memory). */
 SEDGE_CHECK uint8_t sedge_tm_builder_queue(struct sedge_tm_builder *builder, const uint8_t *packet, size_t count,
                                            uint8_t *memory, size_t room);
 
-/* Writes the next frame to the beginning of out, with this operational control field, of four octets as
- * sedge_clcw_encode writes them, and its length, that of all the builder's frames, to total. If packets run out within
- * the frame, an idle packet fills it; if nothing is to be sent, the frame has only idle data. Returns 0, or the first
- * of SEDGE_DAMAGED (as for sedge_tm_builder_queue, or the octets that this frame takes are not whole packets),
- * SEDGE_WRONG_COUNT (the field is not four octets) and SEDGE_TM_ROOM. */
+/* Writes the next frame to the beginning of out, with this operational control field, as sedge_clcw_encode writes it,
+ * and its length, which is the builder's frame length, to total. If packets run out within the frame, an idle packet
+ * fills it; if nothing is to be sent, it has only idle data. Returns 0, or the first of SEDGE_DAMAGED (as for
+ * sedge_tm_builder_queue, or the octets that this frame takes are not whole packets), SEDGE_WRONG_COUNT (the field is
+ * not four octets) and SEDGE_TM_ROOM. */
 SEDGE_CHECK uint8_t sedge_tm_builder_build(struct sedge_tm_builder *builder, const uint8_t *ocf, size_t ocf_count,
                                            const uint8_t *memory, size_t memory_count, uint8_t *out, size_t room,
                                            size_t *total);
 
 /* An extractor of the packets of one virtual channel. Initialise it to {0, 0, 0, 0}; its fields may be read at any
- * time. The memory holds the part of a packet that has not ended, and after a frame also the packet that the frame
- * ended. The memory is large enough if it has as many octets as the longest packet, idle packets included, and the data
- * of a frame have together; 67,578 octets are enough for all packets. A call returns SEDGE_DAMAGED if seen is above 1,
- * if the part is not in the memory, or if there is a part although no frame was seen. */
+ * time. The memory holds the part, the beginning of a packet that has not ended, and after a frame also the packet
+ * that the frame ended. The memory is large enough if it has as many octets as the longest packet, idle packets
+ * included, and the data of a frame have together; 67,578 octets are enough for all packets. A call returns
+ * SEDGE_DAMAGED if seen is above 1, if the part is not in the memory, or if there is a part although no frame was
+ * seen. */
 struct sedge_tm_extractor {
     size_t from;  /* where the part is in the memory */
-    size_t count; /* the number of octets of the part, and 0 if there is none */
+    size_t count; /* the number of octets of the part, or 0 if there is none */
     uint8_t last; /* the virtual channel frame count of the last frame, if one was seen */
     uint8_t seen; /* whether a frame was seen, 0 or 1 */
 };
@@ -636,13 +648,13 @@ struct sedge_tm_extractor {
  * earlier frame, it is the first, and is at the beginning of the memory. The packets after it are in the frame's
  * data. */
 struct sedge_tm_extracted {
-    size_t joined;             /* the length of the packet at the beginning of the memory, and 0 if there is none */
+    size_t joined;             /* the length of the packet at the beginning of the memory, or 0 if there is none */
     struct sedge_part packets; /* where sedge_tm_packet begins in the frame's data */
     uint8_t first;             /* whether this is the first frame, 0 or 1 */
-    uint8_t lost;              /* the number of frames missing before it, modulo 256, and 0 for the first (4.1.2.6) */
+    uint8_t lost;              /* the number of frames missing before it, modulo 256, or 0 for the first (4.1.2.6) */
 };
 
-/* Takes the next frame of the spacecraft and the virtual channel that arrived: its fields and its data, as
+/* Takes the next frame that arrived from the spacecraft on the virtual channel: its fields and its data, as
  * sedge_tm_decode writes them. Use its packets before the next call:
  *
  *     if (extracted.joined > 0) use_packet(memory, extracted.joined);
@@ -661,14 +673,14 @@ SEDGE_CHECK uint8_t sedge_tm_extractor_frame(struct sedge_tm_extractor *extracto
 SEDGE_CHECK bool sedge_tm_packet(const uint8_t *data, size_t data_count, struct sedge_part *packet);
 
 /* Takes the frames of this length that follow one another in the octets, each as sedge_tm_decode and then
- * sedge_tm_extractor_frame take it. Writes a record of 19 octets for each frame to out, in order. A record contains the
- * number of octets of the frame's packets (four octets, the lowest one first), and the first fault of these two calls,
- * or 0. Then come first, lost and dropped; dropped is 1 if a begun packet that is not idle is dropped, and otherwise 0.
- * The record ends with the frame's fields: the scid and the pointer (two octets each, the lower one first), the vcid,
- * mc_count, vc_count and ocf. These fields are 0 if the octets do not form a valid frame. Writes the packets of all
- * these frames to packets, one after another: sedge_map_packet finds where each begins. Stops when out has no room for
- * a record, or when packets has no room for as many octets as the memory and a frame have together. It also stops when
- * no whole frame follows, and takes no frame if the length is 0. Writes the number of octets of all these packets to
+ * sedge_tm_extractor_frame take it, and writes a record of 19 octets for each to out, in order. A record begins with
+ * the number of octets of the frame's packets (four octets, the lowest one first), and the first fault of these two
+ * calls, or 0. Then come first, lost and dropped; dropped is 1 if a begun packet that is not idle is dropped, and
+ * otherwise 0. The record ends with the frame's fields: the scid and the pointer (two octets each, the lower one
+ * first), the vcid, mc_count, vc_count and ocf. These fields are 0 if the octets do not form a valid frame. Writes the
+ * packets of all these frames to packets, one after another: sedge_map_packet finds where each begins. Stops when out
+ * has no room for a record, when packets has no room for as many octets as the memory and a frame have together, or
+ * when no whole frame follows. Takes no frame if the length is 0. Writes the number of octets of all these packets to
  * total. Returns the number of frames. */
 size_t sedge_tm_extractor_frames(struct sedge_tm_extractor *extractor, const uint8_t *octets, size_t count,
                                  size_t frame_length, uint8_t *memory, size_t memory_room, uint8_t *out,
@@ -676,16 +688,17 @@ size_t sedge_tm_extractor_frames(struct sedge_tm_extractor *extractor, const uin
 
 /* ---- Packets in segments, for one MAP (232.0-B-4, 4.1.3.2.2), with blocking or without it. ---- */
 
-/* Why octets of a MAP are dropped: by sedge_map_take from 2 on, by a node (sedgechisel_nodes.h) from 1 on. */
+/* Why octets of a MAP are dropped. A note with a colon states first what is dropped, and then why. sedge_map_take
+ * drops octets for the causes from 2 on, a node (sedgechisel_nodes.h) for all of them. */
 enum sedge_dropped {
     SEDGE_NOT_DROPPED = 0,
     SEDGE_DROPPED_CLOSED_MAP = 1,   /* the segment: its MAP is not open */
-    SEDGE_DROPPED_INTERRUPTED = 2,  /* the part that was open: a first or an alone segment came before its last */
+    SEDGE_DROPPED_INTERRUPTED = 2,  /* the open part: a segment flagged first or alone came before its last one */
     SEDGE_DROPPED_NO_BEGINNING = 3, /* the segment: it continues or ends a packet, and no part is open */
-    SEDGE_DROPPED_NOT_A_PACKET = 4, /* what was joined is not exactly one packet, or what stood alone is not one, or
-                                     * with blocking not one or more whole packets */
-    SEDGE_DROPPED_TOO_LONG = 5      /* what was joined or stood alone, or with blocking one of the packets that stood
-                                     * alone, has more octets than the memory */
+    SEDGE_DROPPED_NOT_A_PACKET = 4, /* a joined part is not exactly one packet, or a segment flagged alone is not one,
+                                     * or with blocking not one or more whole packets */
+    SEDGE_DROPPED_TOO_LONG = 5      /* a joined part or a segment flagged alone, or with blocking a packet in such a
+                                     * segment, has more octets than the memory */
 };
 
 /* The position of the packets that are now whole. */
@@ -701,30 +714,30 @@ enum sedge_where {
  * first octets of the memory are the open part, the beginning of a packet that is not whole yet. A call returns
  * SEDGE_DAMAGED if a flag is above 1, if count is above the memory's, or if count is above 0 with no part open. */
 struct sedge_map {
-    size_t count;     /* the octets of the open part, and 0 if none is open */
+    size_t count;     /* the number of octets of the open part, or 0 if none is open */
     uint8_t open;     /* whether a part is open, 0 or 1 */
     uint8_t blocking; /* whether a segment may hold several whole packets, 0 or 1 */
 };
 
 /* What became of a segment. If a part was interrupted, there may be packets too. */
 struct sedge_taken {
-    size_t count;    /* the octets of all the packets together, and 0 if there are none */
+    size_t count;    /* the number of octets of all the packets together, or 0 if there are none */
     uint8_t where;   /* of sedge_where */
-    uint8_t dropped; /* of sedge_dropped, the later of two */
+    uint8_t dropped; /* of sedge_dropped; if octets were dropped for two causes, the later one */
 };
 
-/* Takes the next segment of the MAP: its flags, of sedge_segment_flags, and its data. Pass on the packets that are
- * whole now before the next call. Returns 0, or SEDGE_DAMAGED, also for flags above 3. */
+/* Takes the next segment of the MAP: its flags, of sedge_segment_flags, and its data. Before the next call, pass on the
+ * packets that are whole now. Returns 0, or SEDGE_DAMAGED, also for flags above 3. */
 SEDGE_CHECK uint8_t sedge_map_take(struct sedge_map *map, uint8_t flags, const uint8_t *data, size_t data_count,
                                    uint8_t *memory, size_t room, struct sedge_taken *taken);
 
-/* Moves to the packet after this part of the octets; begin with {0, 0}. Returns true, and the part is that packet; or
- * returns false and writes nothing if there is none. */
+/* Finds the packet that follows this part of the octets; begin with {0, 0}. Returns true and writes where that packet
+ * is; or returns false and writes nothing if there is none. */
 SEDGE_CHECK bool sedge_map_packet(const uint8_t *octets, size_t count, struct sedge_part *packet);
 
 /* Why octets are not cut into segments. */
 enum sedge_map_fault {
-    SEDGE_MAP_NOT_A_PACKET = 1, /* they are not exactly one packet, or with blocking not one or more whole packets */
+    SEDGE_MAP_NOT_A_PACKET = 1, /* not exactly one packet, or with blocking not one or more whole packets */
     SEDGE_MAP_TOO_LONG = 2      /* a packet has more octets than max_packet */
 };
 
@@ -736,30 +749,31 @@ struct sedge_limits {
 };
 
 /* Writes the number of segments into which a packet is cut, or with blocking one or more packets, one after another.
- * Returns 0, or SEDGE_DAMAGED, or the first of sedge_map_fault. */
+ * Returns 0, or SEDGE_DAMAGED, or the first of sedge_map_fault that applies. */
 SEDGE_CHECK uint8_t sedge_map_count(const uint8_t *octets, size_t count, const struct sedge_limits *limits,
                                     size_t *segments);
 
-/* Writes segment k of these, counted from 0: its flags, of sedge_segment_flags, and where its data are in the octets.
- * Each call starts from the first packet, so with blocking the time for all segments of n packets grows as n * n.
- * Returns what sedge_map_count does, or SEDGE_ABSENT if there are fewer segments. */
+/* Writes segment k, counted from 0, of the segments that sedge_map_count counts: its flags, of sedge_segment_flags, and
+ * where its data are in the octets. Each call starts from the first packet, so with blocking the time for all segments
+ * of n packets grows as n * n. Returns what sedge_map_count does, or SEDGE_ABSENT if there are fewer segments. */
 SEDGE_CHECK uint8_t sedge_map_segment(const uint8_t *octets, size_t count, const struct sedge_limits *limits,
                                       size_t k, uint8_t *flags, struct sedge_part *data);
 
 /* ---- Commands that are executed once and in order on board, over restarts at any moment (docs/PROFILE.md, "Commands
  * that are executed once"). ---- */
 
+/* Why octets of a board's commands are refused, or the board drops a command or an order. */
 enum sedge_log_fault {
     SEDGE_LOG_LAYOUT = 1,       /* not exactly one packet of this layout, or not the layout's number of octets */
     SEDGE_LOG_CHECK = 2,        /* the check does not hold, or a field has a value that the layout does not allow */
     SEDGE_LOG_STARTING = 3,     /* the board has started, and a copy of its record is being repaired */
-    SEDGE_LOG_BUSY = 4,         /* the record is being written, a command is executed, or a restart is due */
+    SEDGE_LOG_BUSY = 4,         /* the record is being written, a command is being executed, or a restart is due */
     SEDGE_LOG_LOST = 5,         /* the board has lost its record */
     SEDGE_LOG_BEHIND = 6,       /* a command with this number was executed or passed over */
     SEDGE_LOG_AHEAD = 7,        /* the command's number is above the next one */
-    SEDGE_LOG_OTHER_BOOT = 8,   /* the order is for another boot count */
-    SEDGE_LOG_NOT_LOST = 9,     /* the order brings a record, and the board has its own */
-    SEDGE_LOG_OTHER_MARK = 10,  /* the order brings a record after another loss */
+    SEDGE_LOG_OTHER_BOOT = 8,   /* the order is for a different boot count */
+    SEDGE_LOG_NOT_LOST = 9,     /* the order brings a record, but the board still has its own */
+    SEDGE_LOG_OTHER_MARK = 10,  /* the order brings a record for another loss */
     SEDGE_LOG_FIELD_RANGE = 11, /* a field is out of range, or the data are too long */
     SEDGE_LOG_ROOM = 12         /* the output is too short for the packet */
 };
@@ -781,13 +795,14 @@ enum sedge_log_status_kind {
     SEDGE_LOG_STATUS_LOST = 3     /* the board has lost its record */
 };
 
+/* What an order demands. */
 enum sedge_log_order_kind {
     SEDGE_LOG_ORDER_RESTART = 1, /* the board with this boot count restarts */
     SEDGE_LOG_ORDER_REBUILD = 2  /* the board that has lost its record, with this mark, gets this record */
 };
 
-/* The lengths in octets of a record at one place, of a status and of an order; and the octets of a command packet in
- * addition to the mission's. */
+/* The lengths in octets of a record at one place, of a status and of an order; and how many octets a command packet has
+ * in addition to the mission's. */
 #define SEDGE_LOG_RECORD_OCTETS 50U
 #define SEDGE_LOG_STATUS_OCTETS 27U
 #define SEDGE_LOG_ORDER_OCTETS 23U
@@ -795,8 +810,8 @@ enum sedge_log_order_kind {
 
 /* What a board keeps about its commands, at two places in memory that survives restarts. */
 struct sedge_log_record {
-    uint64_t known;   /* a bit for each of the 64 numbers up to last, the lowest for last: 1 if it is known that the
-                       * command was executed, whole */
+    uint64_t known;   /* a bit for each of the 64 numbers up to last, the lowest bit for last: 1 if it is known that
+                       * the command was executed completely */
     uint32_t boot;    /* how often the board has started */
     uint32_t last;    /* the number of the last command that was executed or passed over. Numbers begin at 1 */
     uint32_t history; /* the running check of all commands that were taken since the record was new or was brought by
@@ -806,17 +821,20 @@ struct sedge_log_record {
 
 /* The state of a board's commands: begin it with sedge_log_start. One rule applies: the program completes the action
  * that sedge_log_next returns, and calls sedge_log_done, before it calls sedge_log_next again. So a program looks like
- * this:
+ * the following, where first and second are the octets of the two places, mark is a mark of this start, and
+ * wait_and_offer calls sedge_log_offer, or sedge_log_obey for an order:
  *
- *     sedge_log_start(&log, first, 50, second, 50, mark); what both places have, and a mark of this start
+ *     uint8_t octets[SEDGE_LOG_RECORD_OCTETS];
+ *     uint32_t number;
+ *     sedge_log_start(&log, first, sizeof first, second, sizeof second, mark);
  *     for (;;) {
- *         action = sedge_log_next(&log, octets, sizeof octets, &number); 50 octets
+ *         uint8_t action = sedge_log_next(&log, octets, sizeof octets, &number);
  *         switch (action) {
  *         case SEDGE_LOG_WRITE_FIRST:  write_place(0, octets); break;
  *         case SEDGE_LOG_WRITE_SECOND: write_place(1, octets); break;
  *         case SEDGE_LOG_EXECUTE:      execute(number, content); break;
  *         case SEDGE_LOG_RESTART:      restart(); break;
- *         default:                     wait_and_offer(&log); continue; sedge_log_offer, or sedge_log_obey for an order
+ *         default:                     wait_and_offer(&log); continue;
  *         }
  *         if (sedge_log_done(&log, action, number)) stop();
  *     }
@@ -829,39 +847,40 @@ struct sedge_log {
     uint8_t stage;                /* the stage, 1 to 8 */
 };
 
-/* Starts with the octets at the two places of the memory that survives restarts, 50 each. A place with another number
- * of octets, or with octets that do not form a valid record, has no record. Pass another mark at each start, from a
- * clock or at random: if neither place has a record, it is the mark of this loss. */
+/* Starts a board from the octets at the two places of the memory that survives restarts, 50 each. A place with another
+ * number of octets, or with octets that are not a valid record, has no record. Pass a different mark at each start,
+ * from a clock or at random: it is the mark of this loss if neither place has a record. */
 void sedge_log_start(struct sedge_log *log, const uint8_t *first, size_t first_count, const uint8_t *second,
                      size_t second_count, uint32_t mark);
 
-/* Returns the program's next action, of sedge_log_action. The program completes the action and calls sedge_log_done
- * before it calls this again. For a write, out receives the 50 octets of the place; otherwise it does not change.
- * number receives the number of the command to be executed, or 0 for any other action. Or returns the first of
+/* Returns the program's next action, of sedge_log_action. The program completes this action and calls sedge_log_done
+ * before it calls sedge_log_next again. For a write, out receives the 50 octets of the place; otherwise it does not
+ * change. number receives the number of the command to be executed, or 0 for any other action. Or returns the first of
  * SEDGE_WRONG_COUNT, if the buffer is not 50 octets long, and SEDGE_DAMAGED, with nothing written. */
 SEDGE_CHECK uint8_t sedge_log_next(const struct sedge_log *log, uint8_t *out, size_t room, uint32_t *number);
 
 /* Records that the action that sedge_log_next returned, with its number, is complete. Returns 0; or it changes nothing
- * and returns the first of SEDGE_DAMAGED and SEDGE_ABSENT, if the action or its number is not what sedge_log_next
- * returns. */
+ * and returns SEDGE_DAMAGED, or else SEDGE_ABSENT if the action or its number is not what sedge_log_next returns. */
 SEDGE_CHECK uint8_t sedge_log_done(struct sedge_log *log, uint8_t action, uint32_t number);
 
-/* Takes the octets of a packet that arrived if it is the next command, and writes where the mission's octets are in
- * them. Keep these until the command was executed, after sedge_log_next has returned SEDGE_LOG_EXECUTE with its number.
- * Returns 0; or it changes and writes nothing, the packet is dropped, and it returns SEDGE_DAMAGED or the first of 1 to
- * 7 of sedge_log_fault: 1 Layout, then 2 Check, then 3 Starting, 4 Busy or 5 Lost, then 6 Behind or 7 Ahead. */
+/* Takes the octets of a packet that arrived, if it is the next command, and writes where the mission's octets are in
+ * them. Keep the mission's octets until the command has been executed, after sedge_log_next has returned
+ * SEDGE_LOG_EXECUTE with its number. Returns 0, or else drops the packet, changes and writes nothing, and returns
+ * SEDGE_DAMAGED or the first of 1 to 7 of sedge_log_fault: 1 Layout, then 2 Check, then 3 Starting, 4 Busy or 5 Lost,
+ * then 6 Behind or 7 Ahead. */
 SEDGE_CHECK uint8_t sedge_log_offer(struct sedge_log *log, const uint8_t *octets, size_t count,
                                     struct sedge_part *content);
 
-/* Takes the octets of an order that arrived: the next action is then SEDGE_LOG_RESTART; or a board that has lost its
- * record continues with the record that the order brings, if the order has the mark of this loss. Returns 0; or it
- * changes nothing, the packet is dropped, and it returns SEDGE_DAMAGED, or the first of 1 to 5 of sedge_log_fault, or 8
- * to 10 of sedge_log_fault: 1 Layout, then 2 Check; of a restart 3 Starting, 4 Busy or 5 Lost, then 8 OtherBoot; of a
+/* Takes the octets of an order that arrived. An order to restart makes SEDGE_LOG_RESTART the next action. A board that
+ * has lost its record continues with the one that the order brings, if the order has the mark of this loss. Returns 0,
+ * or else drops the packet, changes nothing, and returns SEDGE_DAMAGED, the first of 1 to 5 of sedge_log_fault, or 8 to
+ * 10 of sedge_log_fault: 1 Layout, then 2 Check; of a restart 3 Starting, 4 Busy or 5 Lost, then 8 OtherBoot; of a
  * record 9 NotLost, then 10 OtherMark. */
 SEDGE_CHECK uint8_t sedge_log_obey(struct sedge_log *log, const uint8_t *octets, size_t count);
 
-/* Writes the status for telemetry, 27 octets, with the number of commands that wait on board to be offered, at most
- * 255. Returns 0, or the first of SEDGE_WRONG_COUNT, if the buffer is not 27 octets long, and SEDGE_DAMAGED. */
+/* Writes the status for telemetry, 27 octets, with the number of commands that wait on board to be offered; a number
+ * above 255 is written as 255. Returns 0, or the first of SEDGE_WRONG_COUNT, if the buffer is not 27 octets long, and
+ * SEDGE_DAMAGED. */
 SEDGE_CHECK uint8_t sedge_log_status(const struct sedge_log *log, size_t waiting, uint8_t *out, size_t room);
 
 /* Writes the record of a new board, the 50 octets that both places have before the board starts for the first time.
@@ -876,8 +895,8 @@ struct sedge_board_status {
     uint8_t waiting;              /* how many commands wait on board, at most 255 */
 };
 
-/* Reads a status that arrived. Returns 0, or the first of 1 to 2 of sedge_log_fault: 1 Layout if the octets are not 27,
- * then 2 Check. */
+/* Reads a status that arrived. Returns 0, or the first of 1 to 2 of sedge_log_fault that applies: 1 Layout if the
+ * octets are not 27, then 2 Check. */
 SEDGE_CHECK uint8_t sedge_log_status_decode(const uint8_t *octets, size_t count, struct sedge_board_status *status);
 
 /* Writes a command packet with this APID, sequence count and number, and with the mission's octets, to the beginning of
@@ -889,7 +908,7 @@ SEDGE_CHECK uint8_t sedge_log_command_encode(uint16_t apid, uint16_t count, uint
 
 /* An order to the board itself. It is sent by bypass (Type-BD). */
 struct sedge_log_order {
-    uint32_t boot; /* the boot count: of the board that restarts, or of the record */
+    uint32_t boot; /* the boot count, of the board that restarts or of the record */
     uint32_t last; /* the last number of the record; 0 for a restart */
     uint32_t mark; /* the mark of the loss; 0 for a restart */
     uint8_t kind;  /* of sedge_log_order_kind */
@@ -902,7 +921,8 @@ SEDGE_CHECK uint8_t sedge_log_order_encode(const struct sedge_log_order *order, 
                                            uint8_t *out, size_t room, size_t *total);
 
 /* Returns the history after one more command packet: CRC-32 continued over the packet's check, its last four octets.
- * The history of no packets is 0. A ground that computes it for the packets that it sends compares it with a status. */
+ * The history of no packets is 0. A ground can compute it for the packets that it sends, and compare it with a
+ * status. */
 uint32_t sedge_log_history_after(uint32_t history, const uint8_t *packet, size_t count);
 
 /* ---- Names, as tctool writes them; "?" for a number that is not in the enumeration. ---- */
@@ -921,13 +941,15 @@ struct sedge_text sedge_log_fault_name(uint8_t fault);    /* the name of a sedge
 /* ---- What an alert means. ---- */
 
 /* Returns whether a sedge_alert shows a broken condition of the link: true for SEDGE_ALERT_LOCKOUT, SEDGE_ALERT_NNR,
- * SEDGE_ALERT_CLCW and SEDGE_ALERT_SYNCH. In a confirmed session that was begun by check, Unlock or Set V(R), none of
- * these alerts occurs while the conditions hold: there was a restart on board, a link that reorders or repeats frames,
- * or a second station. Nothing is then known of what is on board: begin again, as after a reset. Returns false for the
- * other alerts, after which the next session begins where this one got to, and for a number that is not an alert. */
+ * SEDGE_ALERT_CLCW and SEDGE_ALERT_SYNCH. None of these can occur in a confirmed session begun by check, Unlock or Set
+ * V(R) while the conditions hold. So the board restarted, the link reorders or repeats frames, or there is a second
+ * station; in other sessions, the receiver's earlier state may be the cause. Nothing is then known of what is on board:
+ * begin again, as after a reset. Returns false for any other number. After other alerts, the next session can resume
+ * where this one ended. */
 bool sedge_alert_shows_broken_condition(uint8_t alert);
 
-/* What to look for after a sedge_alert, and how to recover, in words for an operator; "?" for any other number. */
+/* Returns what to look for after a sedge_alert, and how to recover, in words for an operator; "?" for any other
+ * number. */
 struct sedge_advice sedge_alert_advice(uint8_t alert);
 
 /* ---- The numbers of the enumerations, as constants of an unsigned type. ---- */
@@ -1075,7 +1097,7 @@ struct sedge_advice sedge_alert_advice(uint8_t alert);
 #define SEDGE_LOG_ORDER_REBUILD ((uint8_t)2)
 #endif
 
-/* ---- Names that will be removed after 0.3: each call has another name now. ---- */
+/* ---- Old names of calls, which will be removed after 0.3. ---- */
 
 #define sedge_farm_report sedge_farm_control_word
 #define sedge_fop_report sedge_fop_clcw

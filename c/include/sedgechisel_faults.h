@@ -7,10 +7,9 @@
  * prints, for example, "6 Check: the last two octets are not the check of those before them (4.1.4)".
  *
  * There is a call for each enumeration of faults, with its name, and one for the parameter that sedge_config_fault
- * returns. For a number that is not in the enumeration, the text is that of a number that all kinds of calls share, or
- * "?". A call of the core may also return 253 to 255, the numbers of sedge_status; sedge_status_text and the calls for
- * the core's faults return their texts. A call of a node may also return 252 to 255, numbers of sedge_node_status;
- * sedge_link_fault_text returns their texts.
+ * returns. A call of sedgechisel.h may also return 253 to 255, the numbers of sedge_status; sedge_status_text and the
+ * calls for that header's faults return their texts. A call of sedgechisel_nodes.h may also return 252 to 255, numbers
+ * of sedge_node_status; sedge_link_fault_text returns their texts. For any other number, the text is "?".
  *
  * The texts are constants, and a program contains only those of the calls that it makes. tools/bindings generates them
  * from the notes in the two headers. For C99 and later, and for C++. */
@@ -22,14 +21,16 @@
 /* The text of a sedge_status, which all kinds of calls share. */
 static inline const char *sedge_status_text(uint8_t number) {
     switch (number) {
-    case 253: return "253 Absent: there are fewer segments, or a CLCW states nothing about the units";
+    case 253: return "253 Absent: there is no such segment or action, no earlier packet of the APID, or a CLCW states "
+                     "nothing about the units";
     case 254: return "254 WrongCount: not the number of octets that the call needs";
-    case 255: return "255 Damaged: a struct has a value that no sender, receiver or MAP has, or one outside its enum";
+    case 255: return "255 Damaged: a struct has a value that no sender, receiver or MAP can have, or one outside its "
+                     "enumeration";
     default: return "?";
     }
 }
 
-/* Why a control word is refused: the text of a sedge_clcw_fault. */
+/* Why a CLCW is refused: the text of a sedge_clcw_fault. */
 static inline const char *sedge_clcw_fault_text(uint8_t number) {
     switch (number) {
     case 1: return "1 Kind: the control word type is not 0 (4.2.1.2)";
@@ -62,7 +63,7 @@ static inline const char *sedge_tc_fault_text(uint8_t number) {
     case 2: return "2 Version: the version number is not 00 (4.1.2.2)";
     case 3: return "3 ReservedType: the control command flag without the bypass flag (4.1.2.3)";
     case 4: return "4 Spare: the spare bits are not 00 (4.1.2.4)";
-    case 5: return "5 Length: the declared total is not the number of octets, or too small (4.1.2.7)";
+    case 5: return "5 Length: the declared total is not the number of octets, or is too small (4.1.2.7)";
     case 6: return "6 Check: the last two octets are not the check of those before them (4.1.4)";
     case 7: return "7 BypassNumber: a frame with the bypass flag has a number other than 0 (4.1.2.8)";
     case 8: return "8 EmptyData: no octet in the data field, or only a segment header";
@@ -89,7 +90,7 @@ static inline const char *sedge_packet_fault_text(uint8_t number) {
 /* Why a telemetry frame, or a packet for one, is refused: the text of a sedge_tm_fault. */
 static inline const char *sedge_tm_fault_text(uint8_t number) {
     switch (number) {
-    case 1: return "1 Length: not length octets, or a length outside 16 to 2,048";
+    case 1: return "1 Length: not as many octets as length, or a length outside 16 to 2,048";
     case 2: return "2 Version: the version number is not 00 (4.1.2.2)";
     case 3: return "3 Check: the last two octets are not the check of those before them (4.1.6)";
     case 4: return "4 Status: a flag of the data field status is 1, or its identifier is not 11 (4.1.2.7)";
@@ -107,25 +108,26 @@ static inline const char *sedge_tm_fault_text(uint8_t number) {
 /* Why octets are not cut into segments, or a MAP refuses a call: the text of a sedge_map_fault. */
 static inline const char *sedge_map_fault_text(uint8_t number) {
     switch (number) {
-    case 1: return "1 NotAPacket: they are not exactly one packet, or with blocking not one or more whole packets";
+    case 1: return "1 NotAPacket: not exactly one packet, or with blocking not one or more whole packets";
     case 2: return "2 TooLong: a packet has more octets than max_packet";
     default: return sedge_status_text(number);
     }
 }
 
-/* Why octets of a board's commands are refused, or the board drops a command or an order: the text of a sedge_log_fault. */
+/* Why octets of a board's commands are refused, or the board drops a command or an order: the text of a
+ * sedge_log_fault. */
 static inline const char *sedge_log_fault_text(uint8_t number) {
     switch (number) {
     case 1: return "1 Layout: not exactly one packet of this layout, or not the layout's number of octets";
     case 2: return "2 Check: the check does not hold, or a field has a value that the layout does not allow";
     case 3: return "3 Starting: the board has started, and a copy of its record is being repaired";
-    case 4: return "4 Busy: the record is being written, a command is executed, or a restart is due";
+    case 4: return "4 Busy: the record is being written, a command is being executed, or a restart is due";
     case 5: return "5 Lost: the board has lost its record";
     case 6: return "6 Behind: a command with this number was executed or passed over";
     case 7: return "7 Ahead: the command's number is above the next one";
-    case 8: return "8 OtherBoot: the order is for another boot count";
-    case 9: return "9 NotLost: the order brings a record, and the board has its own";
-    case 10: return "10 OtherMark: the order brings a record after another loss";
+    case 8: return "8 OtherBoot: the order is for a different boot count";
+    case 9: return "9 NotLost: the order brings a record, but the board still has its own";
+    case 10: return "10 OtherMark: the order brings a record for another loss";
     case 11: return "11 FieldRange: a field is out of range, or the data are too long";
     case 12: return "12 Room: the output is too short for the packet";
     default: return sedge_status_text(number);

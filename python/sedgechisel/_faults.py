@@ -10,7 +10,7 @@ from ._library import FIRST, NODES, Numbers, call_of
 
 _SHARED = {253: "Absent", 254: "WrongCount", 255: "Damaged"}
 _WRONG_COUNT = {254: "not the number of octets that the call needs"}
-_DAMAGED = {255: "a struct has a value that no sender, receiver or MAP has, or one outside its enum"}
+_DAMAGED = {255: "a struct has a value that no sender, receiver or MAP can have, or one outside its enumeration"}
 
 
 class Text(ctypes.Structure):
@@ -124,7 +124,7 @@ class TcFault(Fault):
         2: "the version number is not 00 (4.1.2.2)",
         3: "the control command flag without the bypass flag (4.1.2.3)",
         4: "the spare bits are not 00 (4.1.2.4)",
-        5: "the declared total is not the number of octets, or too small (4.1.2.7)",
+        5: "the declared total is not the number of octets, or is too small (4.1.2.7)",
         6: "the last two octets are not the check of those before them (4.1.4)",
         7: "a frame with the bypass flag has a number other than 0 (4.1.2.8)",
         8: "no octet in the data field, or only a segment header",
@@ -162,7 +162,7 @@ class TmFault(Fault):
 
     _word = staticmethod(word_of("tm_fault"))
     _meanings = {
-        1: "not length octets, or a length outside 16 to 2,048",
+        1: "not as many octets as length, or a length outside 16 to 2,048",
         2: "the version number is not 00 (4.1.2.2)",
         3: "the last two octets are not the check of those before them (4.1.6)",
         4: "a flag of the data field status is 1, or its identifier is not 11 (4.1.2.7)",
@@ -191,7 +191,7 @@ class MapFault(Fault):
 
     _word = staticmethod(word_of("map_fault"))
     _meanings = {
-        1: "they are not exactly one packet, or with blocking not one or more whole packets",
+        1: "not exactly one packet, or with blocking not one or more whole packets",
         2: "a packet has more octets than max_packet",
         **_DAMAGED,
     }
@@ -209,13 +209,13 @@ class LogFault(Fault):
         1: "not exactly one packet of this layout, or not the layout's number of octets",
         2: "the check does not hold, or a field has a value that the layout does not allow",
         3: "the board has started, and a copy of its record is being repaired",
-        4: "the record is being written, a command is executed, or a restart is due",
+        4: "the record is being written, a command is being executed, or a restart is due",
         5: "the board has lost its record",
         6: "a command with this number was executed or passed over",
         7: "the command's number is above the next one",
-        8: "the order is for another boot count",
-        9: "the order brings a record, and the board has its own",
-        10: "the order brings a record after another loss",
+        8: "the order is for a different boot count",
+        9: "the order brings a record, but the board still has its own",
+        10: "the order brings a record for another loss",
         11: "a field is out of range, or the data are too long",
         12: "the output is too short for the packet",
     }

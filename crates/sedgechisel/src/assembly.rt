@@ -15,7 +15,7 @@ use tc_frame::SegmentFlags;
 #[repr(C)]
 #[derive(Clone, Copy)]
 pub struct KeptMap {
-    /// The octets of the open part, and 0 if none is open.
+    /// The number of octets of the open part, or 0 if none is open.
     pub count: usize,
     /// Whether a part is open, 0 or 1.
     pub is_open: u8,
@@ -29,16 +29,16 @@ pub struct KeptMap {
 #[repr(C)]
 #[derive(Clone, Copy)]
 pub struct TakenSegment {
-    /// The octets of all the packets together, and 0 if there are none.
+    /// The number of octets of all the packets together, or 0 if there are none.
     pub count: usize,
     /// Of `sedge_where`.
     pub place: u8,
-    /// Of `sedge_dropped`, the later of two.
+    /// Of `sedge_dropped`; if octets were dropped for two causes, the later one.
     pub dropped: u8,
 }
 
-/// Takes the next segment of the MAP: its flags, of `sedge_segment_flags`, and its data. Pass on the packets
-/// that are whole now before the next call. Returns 0, or `SEDGE_DAMAGED`, also for flags above 3.
+/// Takes the next segment of the MAP: its flags, of `sedge_segment_flags`, and its data. Before the next
+/// call, pass on the packets that are whole now. Returns 0, or `SEDGE_DAMAGED`, also for flags above 3.
 #[unsafe(no_mangle)]
 #[must_use]
 pub extern "C" fn sedge_map_take(
@@ -205,8 +205,8 @@ pub(crate) fn add(count: usize, octets: &[u8], memory: &mut [u8]) -> usize
     end
 }
 
-/// Moves to the packet after this part of the octets; begin with `{0, 0}`. Returns true, and the part is that
-/// packet; or returns false and writes nothing if there is none.
+/// Finds the packet that follows this part of the octets; begin with `{0, 0}`. Returns true and writes where
+/// that packet is; or returns false and writes nothing if there is none.
 #[tactic(auto, using(crate::proofs::Pieces::stands_at, crate::proofs::Pieces::none_at, crate::proofs::Pieces::none_past))]
 #[unsafe(no_mangle)]
 #[must_use]

@@ -42,10 +42,10 @@ pub struct CommandFrame {
     pub vr: u8,
 }
 
-/// Reads all of the octets as one frame, which ends with its FECF if `checked` is true, and writes where the
-/// data after the segment header are; for a control frame, which has none, the part is `{0, 0}`. The frame
-/// may be of any spacecraft and virtual channel: compare scid and vcid with your own before you pass the
-/// frame to a receiver. Returns 0, or the first of 1 to 9 of `sedge_tc_fault`.
+/// Reads all of the octets as one frame, which ends with its FECF if `checked` is true. Writes the frame's
+/// fields, and where the data after the segment header are: `{0, 0}` for a control frame, which has none. The
+/// frame may be of any spacecraft and virtual channel: compare scid and vcid with your own before you pass
+/// the frame to a receiver. Returns 0, or the first of 1 to 9 of `sedge_tc_fault` that applies.
 #[unsafe(no_mangle)]
 #[must_use]
 pub extern "C" fn sedge_tc_decode(
@@ -67,7 +67,7 @@ pub extern "C" fn sedge_tc_decode(
 }
 
 /// Writes the frame with these data (ignored for a control frame) to the beginning of `out`, with its FECF if
-/// `checked` is true, and its length in octets, 6 to 1,024, to `total`. Returns 0, or the first of
+/// `checked` is true. Writes the frame's length in octets, 6 to 1,024, to `total`. Returns 0, or the first of
 /// `SEDGE_DAMAGED` (the kind, the segment flags or the command is not in its enumeration),
 /// `SEDGE_TC_FIELD_RANGE` and `SEDGE_TC_ROOM`.
 #[unsafe(no_mangle)]
@@ -92,9 +92,9 @@ pub extern "C" fn sedge_tc_encode(
     }
 }
 
-/// Writes the length of the frame that begins with these octets, from its first 5 octets only; use it to cut
-/// a stream (4.1.2.7). Returns 0, or `SEDGE_TC_SHORT` for fewer than 5 octets, or `SEDGE_TC_LENGTH` if it
-/// declares fewer than 5, or with the FECF fewer than 7.
+/// Reads the length of the frame that begins with these octets from its first 5 octets, and writes it to
+/// `total`; use it to cut a stream (4.1.2.7). Returns 0, or `SEDGE_TC_SHORT` for fewer than 5 octets, or
+/// `SEDGE_TC_LENGTH` if the frame declares fewer than 5 octets, or with its FECF fewer than 7.
 #[unsafe(no_mangle)]
 #[must_use]
 pub extern "C" fn sedge_tc_declared(octets: &[u8], checked: bool, total: &mut usize) -> u8
@@ -112,13 +112,13 @@ pub extern "C" fn sedge_tc_declared(octets: &[u8], checked: bool, total: &mut us
 }
 
 /// Reads the frames that follow one another in the octets, each as long as it declares (4.1.2.7), and writes
-/// a record of 12 octets for each to `out`, in order. A record contains the number of the frame's octets,
-/// what `sedge_tc_decode` returns for it, and the scid, vcid, kind, n, flags, map, command and vr that this
-/// call writes, or 0 for each if it refuses the frame. The number and the scid have two octets, the lower one
-/// first. The data of a Type-AD or a Type-BD frame begin 6 octets after its first. Stops when `out` has no
-/// room for a record, or when no whole frame follows. Call `sedge_tc_declared` with the octets there to find
-/// out whether their length is refused. Writes the number of octets of all these frames to `total`. Returns
-/// the number of frames.
+/// a record of 12 octets for each to `out`, in order. A record contains the number of the frame's octets, the
+/// number that `sedge_tc_decode` returns for the frame, and the scid, vcid, kind, n, flags, map, command and
+/// vr that it writes, or 0 for each of these if it refuses the frame. The number of octets and the scid take
+/// two octets each, the lower one first. The data of a Type-AD or Type-BD frame begin 6 octets after the
+/// frame does. Stops when `out` has no room for a record, or when no whole frame follows; call
+/// `sedge_tc_declared` with the octets there to find out whether their length is refused. Writes the number
+/// of octets of all these frames to `total`. Returns the number of frames.
 #[unsafe(no_mangle)]
 pub extern "C" fn sedge_tc_frames(
     octets: &[u8],

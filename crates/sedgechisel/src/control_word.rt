@@ -9,7 +9,7 @@ use clcw::Clcw;
 
 /// Reads four octets as a CLCW of any virtual channel: compare its vcid with your own before you use its
 /// value or its flags (`sedge_fop_clcw` does so itself). Returns 0, or the first of 1 to 4 of
-/// `sedge_clcw_fault`, or `SEDGE_WRONG_COUNT` if the octets are not four.
+/// `sedge_clcw_fault` that applies, or `SEDGE_WRONG_COUNT` if the octets are not four.
 #[unsafe(no_mangle)]
 #[must_use]
 pub extern "C" fn sedge_clcw_decode(octets: &[u8], word: &mut Clcw) -> u8
@@ -22,8 +22,8 @@ pub extern "C" fn sedge_clcw_decode(octets: &[u8], word: &mut Clcw) -> u8
     written!(clcw::decode(four), |found| *word = found)
 }
 
-/// Writes a CLCW as four octets. Returns 0, or `SEDGE_CLCW_RANGE`, or `SEDGE_WRONG_COUNT` if the buffer is
-/// not four octets long.
+/// Writes a CLCW as four octets. Returns 0, `SEDGE_CLCW_RANGE`, or `SEDGE_WRONG_COUNT` if the buffer is not
+/// four octets long.
 #[unsafe(no_mangle)]
 #[must_use]
 pub extern "C" fn sedge_clcw_encode(word: &Clcw, out: &mut [u8]) -> u8

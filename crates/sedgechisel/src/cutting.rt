@@ -35,7 +35,7 @@ struct Place {
 }
 
 /// Writes the number of segments into which a packet is cut, or with blocking one or more packets, one after
-/// another. Returns 0, or `SEDGE_DAMAGED`, or the first of `sedge_map_fault`.
+/// another. Returns 0, or `SEDGE_DAMAGED`, or the first of `sedge_map_fault` that applies.
 #[unsafe(no_mangle)]
 #[must_use]
 pub extern "C" fn sedge_map_count(octets: &[u8], limits: &CutLimits, segments: &mut usize) -> u8
@@ -47,10 +47,10 @@ pub extern "C" fn sedge_map_count(octets: &[u8], limits: &CutLimits, segments: &
     }
 }
 
-/// Writes segment `k` of these, counted from 0: its flags, of `sedge_segment_flags`, and where its data are
-/// in the octets. Each call starts from the first packet, so with blocking the time for all segments of n
-/// packets grows as n * n. Returns what `sedge_map_count` does, or `SEDGE_ABSENT` if there are fewer
-/// segments.
+/// Writes segment `k`, counted from 0, of the segments that `sedge_map_count` counts: its flags, of
+/// `sedge_segment_flags`, and where its data are in the octets. Each call starts from the first packet, so
+/// with blocking the time for all segments of n packets grows as n * n. Returns what `sedge_map_count` does,
+/// or `SEDGE_ABSENT` if there are fewer segments.
 #[unsafe(no_mangle)]
 #[must_use]
 pub extern "C" fn sedge_map_segment(

@@ -20,8 +20,8 @@ use fields::{described, kept};
 #[repr(C)]
 #[derive(Clone, Copy)]
 pub struct LogRecord {
-    /// A bit for each of the 64 numbers up to last, the lowest for last: 1 if it is known that the command
-    /// was executed, whole.
+    /// A bit for each of the 64 numbers up to last, the lowest bit for last: 1 if it is known that the
+    /// command was executed completely.
     pub known: u64,
     /// How often the board has started.
     pub boot: u32,
@@ -46,9 +46,9 @@ pub struct KeptLog {
     pub stage: u8,
 }
 
-/// Starts with the octets at the two places of the memory that survives restarts, 50 each. A place with
-/// another number of octets, or with octets that do not form a valid record, has no record. Pass another mark
-/// at each start, from a clock or at random: if neither place has a record, it is the mark of this loss.
+/// Starts a board from the octets at the two places of the memory that survives restarts, 50 each. A place
+/// with another number of octets, or with octets that are not a valid record, has no record. Pass a different
+/// mark at each start, from a clock or at random: it is the mark of this loss if neither place has a record.
 #[unsafe(no_mangle)]
 pub extern "C" fn sedge_log_start(log: &mut KeptLog, first: &[u8], second: &[u8], mark: u32)
     ensures log { log.new ≡ log_of (start (copy_at first.now) (copy_at second.now) mark) }
@@ -66,10 +66,10 @@ fn copy_in(octets: &[u8]) -> Option<Record>
     }
 }
 
-/// Returns the program's next action, of `sedge_log_action`. The program completes the action and calls
-/// `sedge_log_done` before it calls this again. For a write, `out` receives the 50 octets of the place;
-/// otherwise it does not change. `number` receives the number of the command to be executed, or 0 for any
-/// other action. Or returns the first of `SEDGE_WRONG_COUNT`, if the buffer is not 50 octets long, and
+/// Returns the program's next action, of `sedge_log_action`. The program completes this action and calls
+/// `sedge_log_done` before it calls `sedge_log_next` again. For a write, `out` receives the 50 octets of the
+/// place; otherwise it does not change. `number` receives the number of the command to be executed, or 0 for
+/// any other action. Or returns the first of `SEDGE_WRONG_COUNT`, if the buffer is not 50 octets long, and
 /// `SEDGE_DAMAGED`, with nothing written.
 #[unsafe(no_mangle)]
 #[must_use]
@@ -115,8 +115,8 @@ fn number_in(action: &Action) -> u32
 }
 
 /// Records that the action that `sedge_log_next` returned, with its number, is complete. Returns 0; or it
-/// changes nothing and returns the first of `SEDGE_DAMAGED` and `SEDGE_ABSENT`, if the action or its number
-/// is not what `sedge_log_next` returns.
+/// changes nothing and returns `SEDGE_DAMAGED`, or else `SEDGE_ABSENT` if the action or its number is not
+/// what `sedge_log_next` returns.
 #[unsafe(no_mangle)]
 #[must_use]
 pub extern "C" fn sedge_log_done(log: &mut KeptLog, action: u8, number: u32) -> u8
@@ -134,11 +134,11 @@ pub extern "C" fn sedge_log_done(log: &mut KeptLog, action: u8, number: u32) -> 
     0
 }
 
-/// Takes the octets of a packet that arrived if it is the next command, and writes where the mission's octets
-/// are in them. Keep these until the command was executed, after `sedge_log_next` has returned
-/// `SEDGE_LOG_EXECUTE` with its number. Returns 0; or it changes and writes nothing, the packet is dropped,
-/// and it returns `SEDGE_DAMAGED` or the first of 1 to 7 of `sedge_log_fault`: 1 Layout, then 2 Check, then 3
-/// Starting, 4 Busy or 5 Lost, then 6 Behind or 7 Ahead.
+/// Takes the octets of a packet that arrived, if it is the next command, and writes where the mission's
+/// octets are in them. Keep the mission's octets until the command has been executed, after `sedge_log_next`
+/// has returned `SEDGE_LOG_EXECUTE` with its number. Returns 0, or else drops the packet, changes and writes
+/// nothing, and returns `SEDGE_DAMAGED` or the first of 1 to 7 of `sedge_log_fault`: 1 Layout, then 2 Check,
+/// then 3 Starting, 4 Busy or 5 Lost, then 6 Behind or 7 Ahead.
 #[unsafe(no_mangle)]
 #[must_use]
 pub extern "C" fn sedge_log_offer(log: &mut KeptLog, octets: &[u8], content: &mut Part) -> u8
@@ -160,11 +160,11 @@ pub extern "C" fn sedge_log_offer(log: &mut KeptLog, octets: &[u8], content: &mu
     0
 }
 
-/// Takes the octets of an order that arrived: the next action is then `SEDGE_LOG_RESTART`; or a board that
-/// has lost its record continues with the record that the order brings, if the order has the mark of this
-/// loss. Returns 0; or it changes nothing, the packet is dropped, and it returns `SEDGE_DAMAGED`, or the
-/// first of 1 to 5 of `sedge_log_fault`, or 8 to 10 of `sedge_log_fault`: 1 Layout, then 2 Check; of a
-/// restart 3 Starting, 4 Busy or 5 Lost, then 8 OtherBoot; of a record 9 NotLost, then 10 OtherMark.
+/// Takes the octets of an order that arrived. An order to restart makes `SEDGE_LOG_RESTART` the next action.
+/// A board that has lost its record continues with the one that the order brings, if the order has the mark
+/// of this loss. Returns 0, or else drops the packet, changes nothing, and returns `SEDGE_DAMAGED`, the first
+/// of 1 to 5 of `sedge_log_fault`, or 8 to 10 of `sedge_log_fault`: 1 Layout, then 2 Check; of a restart 3
+/// Starting, 4 Busy or 5 Lost, then 8 OtherBoot; of a record 9 NotLost, then 10 OtherMark.
 #[unsafe(no_mangle)]
 #[must_use]
 pub extern "C" fn sedge_log_obey(log: &mut KeptLog, octets: &[u8]) -> u8
@@ -180,9 +180,9 @@ pub extern "C" fn sedge_log_obey(log: &mut KeptLog, octets: &[u8]) -> u8
     0
 }
 
-/// Writes the status for telemetry, 27 octets, with the number of commands that wait on board to be offered,
-/// at most 255. Returns 0, or the first of `SEDGE_WRONG_COUNT`, if the buffer is not 27 octets long, and
-/// `SEDGE_DAMAGED`.
+/// Writes the status for telemetry, 27 octets, with the number of commands that wait on board to be offered;
+/// a number above 255 is written as 255. Returns 0, or the first of `SEDGE_WRONG_COUNT`, if the buffer is not
+/// 27 octets long, and `SEDGE_DAMAGED`.
 #[unsafe(no_mangle)]
 #[must_use]
 pub extern "C" fn sedge_log_status(log: &KeptLog, waiting: usize, out: &mut [u8]) -> u8

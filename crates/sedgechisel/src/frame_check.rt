@@ -12,7 +12,7 @@ pub extern "C" fn sedge_check(octets: &[u8]) -> u16
     octets::check(octets)
 }
 
-/// Sets the last two octets to the check of those before them, and returns true; for fewer than two octets,
+/// Sets the last two octets to the check of those before them, and returns true. For fewer than two octets,
 /// returns false and writes nothing.
 #[unsafe(no_mangle)]
 #[must_use]

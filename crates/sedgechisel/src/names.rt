@@ -65,11 +65,11 @@ fn alert_of(number: u8) -> Option<Alert>
 }
 
 /// Returns whether a `sedge_alert` shows a broken condition of the link: true for `SEDGE_ALERT_LOCKOUT`,
-/// `SEDGE_ALERT_NNR`, `SEDGE_ALERT_CLCW` and `SEDGE_ALERT_SYNCH`. In a confirmed session that was begun by
-/// check, Unlock or Set V(R), none of these alerts occurs while the conditions hold: there was a restart on
-/// board, a link that reorders or repeats frames, or a second station. Nothing is then known of what is on
-/// board: begin again, as after a reset. Returns false for the other alerts, after which the next session
-/// begins where this one got to, and for a number that is not an alert.
+/// `SEDGE_ALERT_NNR`, `SEDGE_ALERT_CLCW` and `SEDGE_ALERT_SYNCH`. None of these can occur in a confirmed
+/// session begun by check, Unlock or Set V(R) while the conditions hold. So the board restarted, the link
+/// reorders or repeats frames, or there is a second station; in other sessions, the receiver's earlier state
+/// may be the cause. Nothing is then known of what is on board: begin again, as after a reset. Returns false
+/// for any other number. After other alerts, the next session can resume where this one ended.
 #[unsafe(no_mangle)]
 pub extern "C" fn sedge_alert_shows_broken_condition(alert: u8) -> bool
     ensures { result ≡ broken_if (alert_at alert) }
@@ -80,8 +80,8 @@ pub extern "C" fn sedge_alert_shows_broken_condition(alert: u8) -> bool
     }
 }
 
-/// What to look for after a `sedge_alert`, and how to recover, in words for an operator; "?" for any other
-/// number.
+/// Returns what to look for after a `sedge_alert`, and how to recover, in words for an operator; "?" for any
+/// other number.
 #[unsafe(no_mangle)]
 pub extern "C" fn sedge_alert_advice(alert: u8) -> Advice
     ensures { result.text ≡ sentence_of (advice_if (alert_at alert)) }

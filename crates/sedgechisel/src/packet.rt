@@ -29,9 +29,9 @@ pub struct PacketFields {
     pub flags: u8,
 }
 
-/// Reads the packet at the beginning of the octets, and writes where its data field is. The packet ends where
-/// its data field ends, and octets after it are ignored. Returns 0, or the first of 1 to 3 of
-/// `sedge_packet_fault` (`SEDGE_PACKET_TRUNCATED` for fewer octets than declared comes last).
+/// Reads the packet at the beginning of the octets, and writes its fields and where its data field is. The
+/// packet ends with its data field, and octets after it are ignored. Returns 0, or the first of 1 to 3 of
+/// `sedge_packet_fault` that applies; the declared length (`SEDGE_PACKET_TRUNCATED`) is checked last.
 #[unsafe(no_mangle)]
 #[must_use]
 pub extern "C" fn sedge_packet_decode(
@@ -55,8 +55,8 @@ pub extern "C" fn sedge_packet_decode(
 }
 
 /// Writes the packet with this data field to the beginning of `out`, and its length in octets, 6 more than
-/// its data, to `total`. Returns 0, or the first of `SEDGE_DAMAGED` (the kind is not in its enumeration, or
-/// the secondary header flag is above 1), `SEDGE_PACKET_FIELD_RANGE` and `SEDGE_PACKET_ROOM`.
+/// its data have, to `total`. Returns 0, or the first of `SEDGE_DAMAGED` (the kind is not in its enumeration,
+/// or the secondary header flag is above 1), `SEDGE_PACKET_FIELD_RANGE` and `SEDGE_PACKET_ROOM`.
 #[unsafe(no_mangle)]
 #[must_use]
 pub extern "C" fn sedge_packet_encode(
@@ -77,9 +77,9 @@ pub extern "C" fn sedge_packet_encode(
     }
 }
 
-/// Writes the length of the packet that begins with these octets, from its first 6 octets only; use it to cut
-/// a stream (4.1.3.5). Returns 0, or `SEDGE_PACKET_TRUNCATED` for fewer than 6 octets, or
-/// `SEDGE_PACKET_VERSION`, or `SEDGE_PACKET_IDLE_WITH_SECONDARY`.
+/// Reads the length of the packet that begins with these octets from its first 6 octets, and writes it to
+/// `total`; use it to cut a stream (4.1.3.5). Returns 0, or `SEDGE_PACKET_TRUNCATED` for fewer than 6 octets,
+/// or `SEDGE_PACKET_VERSION`, or `SEDGE_PACKET_IDLE_WITH_SECONDARY`.
 #[unsafe(no_mangle)]
 #[must_use]
 pub extern "C" fn sedge_packet_declared(octets: &[u8], total: &mut usize) -> u8
@@ -96,7 +96,7 @@ pub extern "C" fn sedge_packet_declared(octets: &[u8], total: &mut usize) -> u8
 #[repr(C)]
 #[derive(Clone, Copy)]
 pub struct KeptGaps {
-    /// By APID; above 16,383 if no packet of the APID was seen.
+    /// The last count that was seen, by APID; above 16,383 if no packet of the APID was seen.
     pub last: [u16; 2048],
 }
 
@@ -110,7 +110,7 @@ pub extern "C" fn sedge_gap_check_open(check: &mut KeptGaps)
 
 /// Records a packet of this APID with this count, as `sedge_packet_decode` writes them, and writes the number
 /// of packets missing before it to `missing`: (count - last - 1) modulo 16,384. Returns 0, or `SEDGE_ABSENT`
-/// for the first packet of the APID, which is recorded too; or `SEDGE_PACKET_FIELD_RANGE` if `apid` is not
+/// for the first packet of the APID, which is recorded too, or `SEDGE_PACKET_FIELD_RANGE` if `apid` is not
 /// below 2,048 or `count` not below 16,384.
 #[unsafe(no_mangle)]
 #[must_use]

@@ -37,9 +37,9 @@ pub extern "C" fn sedge_farm_open(receiver: &mut Receiver, width: u8, vr: u8) ->
     written!(Farm::new(width, vr), |farm| *receiver = kept(&farm))
 }
 
-/// Judges a Type-AD frame with the number `n`; `buffer_free` states whether there is room for its data.
-/// Returns its verdict, of `sedge_verdict`: if it is `SEDGE_ACCEPTED`, pass on the data. Or returns
-/// `SEDGE_DAMAGED`.
+/// Judges a Type-AD frame whose number N(S) is `n`; `buffer_free` states whether there is room for its data.
+/// Returns the verdict, of `sedge_verdict`, or `SEDGE_DAMAGED`. If the verdict is `SEDGE_ACCEPTED`, pass on
+/// the frame's data.
 #[unsafe(no_mangle)]
 #[must_use]
 pub extern "C" fn sedge_farm_ad(receiver: &mut Receiver, n: u8, buffer_free: bool) -> u8
@@ -86,8 +86,8 @@ pub extern "C" fn sedge_farm_unlock(receiver: &mut Receiver) -> u8
     step!(receiver, |farm| farm.unlock(), 0)
 }
 
-/// Executes the control command Set V(R); in Lockout it is only counted, and V(R) does not change. Returns 0,
-/// or `SEDGE_DAMAGED`.
+/// Executes the control command Set V(R); in Lockout it is only counted in FARM-B, and V(R) does not change.
+/// Returns 0, or `SEDGE_DAMAGED`.
 #[unsafe(no_mangle)]
 pub extern "C" fn sedge_farm_set_vr(receiver: &mut Receiver, vr: u8) -> u8
     ensures { IsStepped (SetVrArrives vr) receiver.old receiver.new result }
@@ -103,9 +103,9 @@ pub extern "C" fn sedge_farm_released(receiver: &mut Receiver) -> u8
     step!(receiver, |farm| farm.released(), 0)
 }
 
-/// Writes the CLCW (232.0-B-4, 4.2) that reports the receiver's present state, for the virtual channel
-/// `vcid`; the flags for the radio channel and bit lock are 0. Returns 0, or `SEDGE_DAMAGED`, or
-/// `SEDGE_CLCW_RANGE` if `vcid` is not below 64.
+/// Writes the CLCW (232.0-B-4, 4.2) that reports the receiver's present state for the virtual channel `vcid`;
+/// the flags for the radio channel and bit lock are 0. Returns 0, or `SEDGE_DAMAGED`, or `SEDGE_CLCW_RANGE`
+/// if `vcid` is not below 64.
 #[unsafe(no_mangle)]
 #[must_use]
 pub extern "C" fn sedge_farm_control_word(receiver: &Receiver, vcid: u8, word: &mut Clcw) -> u8
@@ -121,7 +121,7 @@ pub extern "C" fn sedge_farm_control_word(receiver: &Receiver, vcid: u8, word: &
     0
 }
 
-/// Returns the state, of `sedge_farm_mode`, or `SEDGE_DAMAGED`.
+/// Returns the receiver's state, of `sedge_farm_mode`, or `SEDGE_DAMAGED`.
 #[unsafe(no_mangle)]
 #[must_use]
 pub extern "C" fn sedge_farm_state(receiver: &Receiver) -> u8

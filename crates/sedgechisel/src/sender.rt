@@ -25,7 +25,7 @@ use tc_frame::Command;
 pub struct KeptSender {
     /// The timer's value in ticks, at least 1.
     pub timer: u16,
-    /// The ticks that are left while the timer runs, and 0 while it is off.
+    /// The ticks that are left while the timer runs, or 0 while it is off.
     pub ticks: u16,
     /// Half the receiver's window width, 1 to 127: the maximum number of units sent and not acknowledged.
     pub room: u8,
@@ -39,7 +39,7 @@ pub struct KeptSender {
     pub waiting: u8,
     /// The number of units sent and not acknowledged, at most room.
     pub sent: u8,
-    /// The number of these, the last ones, that are due to be retransmitted.
+    /// How many of these, the last ones, are due to be retransmitted.
     pub due: u8,
     /// The window K, 1 to room.
     pub window: u8,
@@ -49,11 +49,11 @@ pub struct KeptSender {
     pub count: u8,
     /// Of `sedge_control`.
     pub control: u8,
-    /// The number of the control command Set V(R), and 0 if there is no such command.
+    /// The number of the control command Set V(R), or 0 if there is no such command.
     pub vr: u8,
 }
 
-/// Begins a sender in state S6 with V(S) and NN(R) 0, for a receiver of this window width, with the window K,
+/// Begins a sender in state S6 with V(S) = NN(R) = 0, for a receiver of this window width, with the window K,
 /// the transmission limit and the timer's value in ticks. Returns 0, or the first of `SEDGE_COP_WIDTH` (not
 /// even, 2 to 254), `SEDGE_COP_WINDOW` (not 1 to half the width), `SEDGE_COP_LIMIT` (0) and `SEDGE_COP_TIMER`
 /// (0).
@@ -75,7 +75,7 @@ pub extern "C" fn sedge_fop_open(
 }
 
 /// Submits a unit to be sent under sequence control. The unit waits, and the caller keeps it. Returns 0, or
-/// `SEDGE_DAMAGED`, or `SEDGE_COP_NOT_OPEN` in S6, or `SEDGE_COP_BUSY` while another one waits.
+/// `SEDGE_DAMAGED`, or `SEDGE_COP_NOT_OPEN` in S6, or `SEDGE_COP_BUSY` while another unit waits.
 #[unsafe(no_mangle)]
 #[must_use]
 pub extern "C" fn sedge_fop_submit(sender: &mut KeptSender) -> u8
@@ -87,8 +87,8 @@ pub extern "C" fn sedge_fop_submit(sender: &mut KeptSender) -> u8
     }
 }
 
-/// Takes what is to be sent on the link next. Returns one of `sedge_next`, and writes its number, or 0 if it
-/// has none; or returns `SEDGE_DAMAGED`, with nothing written.
+/// Takes what is to be sent on the link next. Returns what this is, of `sedge_next`, and writes its number,
+/// or 0 if it has none; or returns `SEDGE_DAMAGED`, with nothing written.
 #[unsafe(no_mangle)]
 #[must_use]
 pub extern "C" fn sedge_fop_next(sender: &mut KeptSender, number: &mut u8) -> u8
@@ -107,9 +107,9 @@ pub extern "C" fn sedge_fop_next(sender: &mut KeptSender, number: &mut u8) -> u8
 
 /// Takes a CLCW for the sender of the virtual channel `vcid`. The call compares this number with the CLCW's
 /// `vcid`; the caller has already compared the scid of the telemetry frame that carried the CLCW. Returns the
-/// alert, of `sedge_alert`, and writes the number of units that are acknowledged, the oldest of those sent;
-/// or with nothing written and nothing changed it returns the first of `SEDGE_ABSENT`, if the CLCW reports on
-/// another channel, and `SEDGE_DAMAGED`.
+/// alert, of `sedge_alert`, and writes how many units are acknowledged, the oldest of those sent. Or returns
+/// the first of `SEDGE_ABSENT`, if the CLCW reports on another channel, and `SEDGE_DAMAGED`, with nothing
+/// written and nothing changed.
 #[unsafe(no_mangle)]
 #[must_use]
 pub extern "C" fn sedge_fop_clcw(

@@ -24,7 +24,7 @@ pub struct KeptBuilder {
     pub from: usize,
     /// The number of octets that are to be sent.
     pub count: usize,
-    /// The number of these, the first ones, that are left of the packet that was begun.
+    /// How many of these, the first ones, are left of the packet that was begun.
     pub begun: usize,
     /// The spacecraft identifier, below 1,024.
     pub scid: u16,
@@ -71,10 +71,10 @@ pub extern "C" fn sedge_tm_builder_open(
     0
 }
 
-/// Queues a packet, all of its octets, after those that are to be sent, which it does not read. Returns 0, or
-/// the first of `SEDGE_DAMAGED` (no builder has the numbers of the struct, or its octets are not in the
-/// memory), `SEDGE_TM_NOT_A_PACKET` (not exactly one packet, or an idle one) and `SEDGE_TM_MEMORY` (the
-/// octets to be sent and the packet do not fit in the memory).
+/// Queues a packet, given by all of its octets, after the octets that are already to be sent; those are not
+/// read. Returns 0, or the first of `SEDGE_DAMAGED` (no builder has the numbers of the struct, or its octets
+/// are not in the memory), `SEDGE_TM_NOT_A_PACKET` (not exactly one packet, or an idle one) and
+/// `SEDGE_TM_MEMORY` (the octets to be sent and the packet do not fit in the memory).
 #[unsafe(no_mangle)]
 #[must_use]
 pub extern "C" fn sedge_tm_builder_queue(
@@ -110,9 +110,9 @@ pub extern "C" fn sedge_tm_builder_queue(
     0
 }
 
-/// Writes the next frame to the beginning of `out`, with this operational control field, of four octets as
-/// `sedge_clcw_encode` writes them, and its length, that of all the builder's frames, to `total`. If packets
-/// run out within the frame, an idle packet fills it; if nothing is to be sent, the frame has only idle data.
+/// Writes the next frame to the beginning of `out`, with this operational control field, as
+/// `sedge_clcw_encode` writes it, and its length, which is the builder's frame length, to `total`. If packets
+/// run out within the frame, an idle packet fills it; if nothing is to be sent, it has only idle data.
 /// Returns 0, or the first of `SEDGE_DAMAGED` (as for `sedge_tm_builder_queue`, or the octets that this frame
 /// takes are not whole packets), `SEDGE_WRONG_COUNT` (the field is not four octets) and `SEDGE_TM_ROOM`.
 #[unsafe(no_mangle)]

@@ -25,7 +25,7 @@ use tm_link::{
 pub struct KeptExtractor {
     /// Where the part is in the memory.
     pub from: usize,
-    /// The number of octets of the part, and 0 if there is none.
+    /// The number of octets of the part, or 0 if there is none.
     pub count: usize,
     /// The virtual channel frame count of the last frame, if one was seen.
     pub last: u8,
@@ -38,17 +38,17 @@ pub struct KeptExtractor {
 #[repr(C)]
 #[derive(Clone, Copy)]
 pub struct TakenFrame {
-    /// The length of the packet at the beginning of the memory, and 0 if there is none.
+    /// The length of the packet at the beginning of the memory, or 0 if there is none.
     pub joined: usize,
     /// Where `sedge_tm_packet` begins in the frame's data.
     pub packets: Part,
     /// Whether this is the first frame, 0 or 1.
     pub first: u8,
-    /// The number of frames missing before it, modulo 256, and 0 for the first (4.1.2.6).
+    /// The number of frames missing before it, modulo 256, or 0 for the first (4.1.2.6).
     pub lost: u8,
 }
 
-/// Takes the next frame of the spacecraft and the virtual channel that arrived: its fields and its data, as
+/// Takes the next frame that arrived from the spacecraft on the virtual channel: its fields and its data, as
 /// `sedge_tm_decode` writes them. Use its packets before the next call:
 ///
 ///     if (extracted.joined > 0) use_packet(memory, extracted.joined);

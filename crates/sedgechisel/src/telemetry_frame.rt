@@ -29,9 +29,9 @@ pub struct TelemetryFrame {
     pub ocf: [u8; 4],
 }
 
-/// Reads all of the octets as one frame of this length, and writes where its data are. The frame may be of
-/// any spacecraft and virtual channel: compare scid and vcid with your own before you pass the frame to an
-/// extractor, and scid before you use its CLCW. Returns 0, or the first of 1 to 6 of `sedge_tm_fault`.
+/// Reads all of the octets as one frame of this length, and writes its fields and where its data are. The
+/// frame may be of any spacecraft and virtual channel: compare scid and vcid with your own before you pass it
+/// to an extractor, and scid before you use its CLCW. Returns 0, or the first of 1 to 6 of `sedge_tm_fault`.
 #[unsafe(no_mangle)]
 #[must_use]
 pub extern "C" fn sedge_tm_decode(
@@ -56,7 +56,7 @@ pub extern "C" fn sedge_tm_decode(
 }
 
 /// Writes the frame with these data and its FECF to the beginning of `out`, and its length in octets, 12 more
-/// than its data, to `total`. Returns 0, or the first of `SEDGE_TM_FIELD_RANGE` and `SEDGE_TM_ROOM`.
+/// than its data have, to `total`. Returns 0, or the first of `SEDGE_TM_FIELD_RANGE` and `SEDGE_TM_ROOM`.
 #[unsafe(no_mangle)]
 #[must_use]
 pub extern "C" fn sedge_tm_encode(

@@ -5,7 +5,7 @@ ghost use Rattle.c_words.specs.Words.{text_of};
 
 use c_words::{Text, spelled};
 
-/// The version of the library.
+/// Returns the version of the library.
 #[unsafe(no_mangle)]
 pub extern "C" fn sedge_version() -> Text
     ensures { result.text ≡ text_of (codes "0.3.0") }

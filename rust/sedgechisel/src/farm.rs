@@ -15,7 +15,8 @@ faults! {
         NotOpen = 6, "the sender is in its state S6";
         Busy = 7, "a unit is already waiting";
         WrongState = 8, "the directive is not allowed in the sender's state";
-        Damaged = 255, "a struct has a value that no sender, receiver or MAP has, or one outside its enum";
+        Damaged = 255, "a struct has a value that no sender, receiver or MAP can have, or one outside its \
+            enumeration";
     }
 }
 

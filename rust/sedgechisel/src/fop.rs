@@ -29,12 +29,13 @@ reasons! {
     /// Why the sender has given up (CCSDS 232.1-B-2, 5.2.5). An alert discards all units, including the one that waits.
     /// Nothing else discards units.
     Alert {
-        Lockout = 1, "a report has the lockout flag";
-        NnR = 2, "a report's value is not from NN(R) to V(S)";
-        Clcw = 3, "a report has the wait flag without the retransmit flag";
-        Synch = 4, "a report asks to repeat what was not sent, or stops asking before it got any of it";
-        Limit = 5, "a report asks for units again, and the transmission limit is 1";
-        Timer = 6, "the timer has ended, and units may not be sent again";
+        Lockout = 1, "a CLCW has the lockout flag";
+        NnR = 2, "a CLCW's value is not from NN(R) to V(S)";
+        Clcw = 3, "a CLCW has the wait flag without the retransmit flag";
+        Synch = 4, "a CLCW requests retransmission when there is nothing to retransmit, or no longer requests it \
+            before anything was acknowledged";
+        Limit = 5, "a CLCW requests retransmission, and the transmission limit is 1";
+        Timer = 6, "the timer has expired, and nothing may be sent again";
         Terminated = 7, "the directive Terminate";
     }
 }

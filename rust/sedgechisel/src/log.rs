@@ -10,13 +10,13 @@ faults! {
         Layout = 1, "not exactly one packet of this layout, or not the layout's number of octets";
         Check = 2, "the check does not hold, or a field has a value that the layout does not allow";
         Starting = 3, "the board has started, and a copy of its record is being repaired";
-        Busy = 4, "the record is being written, a command is executed, or a restart is due";
+        Busy = 4, "the record is being written, a command is being executed, or a restart is due";
         Lost = 5, "the board has lost its record";
         Behind = 6, "a command with this number was executed or passed over";
         Ahead = 7, "the command's number is above the next one";
-        OtherBoot = 8, "the order is for another boot count";
-        NotLost = 9, "the order brings a record, and the board has its own";
-        OtherMark = 10, "the order brings a record after another loss";
+        OtherBoot = 8, "the order is for a different boot count";
+        NotLost = 9, "the order brings a record, but the board still has its own";
+        OtherMark = 10, "the order brings a record for another loss";
         FieldRange = 11, "a field is out of range, or the data are too long";
         Room = 12, "the output is too short for the packet";
     }

@@ -9,21 +9,22 @@ reasons! {
     /// Why octets of a MAP are dropped (CCSDS 232.0-B-4, 4.1.3.2.2).
     Dropped {
         ClosedMap = 1, "the segment: its MAP is not open";
-        Interrupted = 2, "the part that was open: a first or an alone segment came before its last";
+        Interrupted = 2, "the open part: a segment flagged first or alone came before its last one";
         NoBeginning = 3, "the segment: it continues or ends a packet, and no part is open";
-        NotAPacket = 4, "what was joined is not exactly one packet, or what stood alone is not one, or with blocking \
-            not one or more whole packets";
-        TooLong = 5, "what was joined or stood alone, or with blocking one of the packets that stood alone, has more \
-            octets than the memory";
+        NotAPacket = 4, "a joined part is not exactly one packet, or a segment flagged alone is not one, or with \
+            blocking not one or more whole packets";
+        TooLong = 5, "a joined part or a segment flagged alone, or with blocking a packet in such a segment, has \
+            more octets than the memory";
     }
 }
 
 faults! {
     /// Why octets are not cut into segments.
     MapFault {
-        NotAPacket = 1, "they are not exactly one packet, or with blocking not one or more whole packets";
+        NotAPacket = 1, "not exactly one packet, or with blocking not one or more whole packets";
         TooLong = 2, "a packet has more octets than max_packet";
-        Damaged = 255, "a struct has a value that no sender, receiver or MAP has, or one outside its enum";
+        Damaged = 255, "a struct has a value that no sender, receiver or MAP can have, or one outside its \
+            enumeration";
     }
 }
 

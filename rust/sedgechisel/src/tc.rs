@@ -11,7 +11,7 @@ faults! {
         Version = 2, "the version number is not 00 (4.1.2.2)";
         ReservedType = 3, "the control command flag without the bypass flag (4.1.2.3)";
         Spare = 4, "the spare bits are not 00 (4.1.2.4)";
-        Length = 5, "the declared total is not the number of octets, or too small (4.1.2.7)";
+        Length = 5, "the declared total is not the number of octets, or is too small (4.1.2.7)";
         Check = 6, "the last two octets are not the check of those before them (4.1.4)";
         BypassNumber = 7, "a frame with the bypass flag has a number other than 0 (4.1.2.8)";
         EmptyData = 8, "no octet in the data field, or only a segment header";

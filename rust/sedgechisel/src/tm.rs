@@ -7,7 +7,7 @@ use core::iter::FusedIterator;
 faults! {
     /// Why a telemetry frame is refused (CCSDS 132.0-B-3).
     TmFault {
-        Length = 1, "not length octets, or a length outside 16 to 2,048";
+        Length = 1, "not as many octets as length, or a length outside 16 to 2,048";
         Version = 2, "the version number is not 00 (4.1.2.2)";
         Check = 3, "the last two octets are not the check of those before them (4.1.6)";
         Status = 4, "a flag of the data field status is 1, or its identifier is not 11 (4.1.2.7)";

@@ -31,7 +31,7 @@ pub struct LogStatus {
 #[repr(C)]
 #[derive(Clone, Copy)]
 pub struct LogOrder {
-    /// The boot count: of the board that restarts, or of the record.
+    /// The boot count, of the board that restarts or of the record.
     pub boot: u32,
     /// The last number of the record; 0 for a restart.
     pub last: u32,
@@ -55,8 +55,8 @@ pub extern "C" fn sedge_log_new_record(out: &mut [u8]) -> u8
     0
 }
 
-/// Reads a status that arrived. Returns 0, or the first of 1 to 2 of `sedge_log_fault`: 1 Layout if the
-/// octets are not 27, then 2 Check.
+/// Reads a status that arrived. Returns 0, or the first of 1 to 2 of `sedge_log_fault` that applies: 1 Layout
+/// if the octets are not 27, then 2 Check.
 #[unsafe(no_mangle)]
 #[must_use]
 pub extern "C" fn sedge_log_status_decode(octets: &[u8], status: &mut LogStatus) -> u8
@@ -154,7 +154,7 @@ fn order_from(fields: &LogOrder) -> Result<Order, u8>
 }
 
 /// Returns the history after one more command packet: CRC-32 continued over the packet's check, its last four
-/// octets. The history of no packets is 0. A ground that computes it for the packets that it sends compares
+/// octets. The history of no packets is 0. A ground can compute it for the packets that it sends, and compare
 /// it with a status.
 #[unsafe(no_mangle)]
 pub extern "C" fn sedge_log_history_after(history: u32, packet: &[u8]) -> u32

@@ -9,13 +9,13 @@ use super::fields::described;
 use crate::numbers::ABSENT;
 use cop1::accepted_beyond;
 
-/// Writes how many of the units that were sent and not acknowledged were accepted on board when a CLCW of
+/// Writes how many of the units that were sent and not acknowledged were accepted on board when a CLCW with
 /// this value was made. They are the oldest ones, with the numbers from NN(R) to value - 1 (5.1). The call
 /// does so after an alert too, until V(S) is set or an initiation begins. It uses only the numbers: after an
-/// alert that shows a broken condition nothing is known of these units, whatever the call writes. If V(S) is
+/// alert that shows a broken condition, nothing is known of these units, whatever the call writes. If V(S) is
 /// NN(R), there are no such units, and the call writes 0 for every value. Returns 0, or `SEDGE_DAMAGED`, or
-/// `SEDGE_ABSENT` if there are such units and the value does not lie from NN(R) to V(S), so that nothing is
-/// known of them; nothing is written then.
+/// `SEDGE_ABSENT` if there are such units and the value does not lie from NN(R) to V(S): nothing is then
+/// known of them, and nothing is written.
 #[unsafe(no_mangle)]
 #[must_use]
 pub extern "C" fn sedge_fop_accepted_beyond(sender: &KeptSender, value: u8, accepted: &mut u8) -> u8
@@ -30,8 +30,8 @@ pub extern "C" fn sedge_fop_accepted_beyond(sender: &KeptSender, value: u8, acce
     }
 }
 
-/// Writes the same number for a sender with this NN(R) and V(S). Returns 0, or `SEDGE_ABSENT` if nothing is
-/// known.
+/// Writes what `sedge_fop_accepted_beyond` writes for a sender with this NN(R) and this V(S). Returns 0, or
+/// `SEDGE_ABSENT` if nothing is known.
 #[unsafe(no_mangle)]
 #[must_use]
 pub extern "C" fn sedge_accepted_beyond(nn: u8, vs: u8, value: u8, accepted: &mut u8) -> u8
