@@ -82,7 +82,7 @@ class Struct(typing.NamedTuple):
                 kind = "octets" if "&'a" in line else "char" if self.name in WORDS else struct_names().get(kind, kind)
                 yield Field(name, kind, int(found[3] or 0), note)
                 if kind == "octets":
-                    yield Field("count", "usize", 0, "The number of these.")
+                    yield Field("count", "usize", 0, "The number of octets.")
                 docs = []
 
 

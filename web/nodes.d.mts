@@ -116,17 +116,17 @@ export class Ground extends Directing {
      */
     constructor(config?: Partial<import("./meanings.mjs").Config> | undefined, kept?: Partial<KeptGround> | undefined);
     /**
-     * Returns the ground's record, which has a fixed size; the ground does not change. A program stores the record
-     * after each call, and after a pull before the frame goes out. If the ground is lost, `new Ground(config, kept)`
-     * opens another one from the record. The record contains nothing of submissions that were not sent whole, of bypass
-     * packets, of telemetry, or of what directives set.
+     * Returns the ground's record, which has a fixed size; the ground does not change. Store the record after each
+     * call, and after `pull` before the frame is sent. If the ground is lost, `new Ground(config, kept)` opens another
+     * one from the record. The record contains nothing of submissions that were not sent whole, of bypass packets, of
+     * telemetry, or of what directives set.
      * @returns {KeptGround}
      */
     get kept(): KeptGround;
     /**
-     * Submits one packet on a MAP under sequence control, or several if blocking is on. Throws the first of LinkFault 1
-     * to 5 that applies, or LinkFault 6 (Memory). sedge_map_count returns the number of their segments. The promise
-     * that `resume` counts a submission correctly covers one packet, and packets that share one segment.
+     * Submits one packet on a MAP under sequence control, or several if blocking is on. sedge_map_count returns the
+     * number of their segments. The promise that `resume` counts a submission correctly covers one packet, and packets
+     * that share one segment. Throws the first of LinkFault 1 to 5 that applies, or LinkFault 6 (Memory).
      * @param {number} map
      * @param {Uint8Array} packets
      * @returns {number} the number of this submission in its session, from 0
@@ -159,16 +159,16 @@ export class Ground extends Directing {
      */
     frames(): Generator<Uint8Array, void, undefined>;
     /**
-     * Returns the next frame for the link as `pull` does; the ground does not change. Call `advance`, and the frame
-     * counts as sent, once a radio that may refuse it has taken it.
+     * Returns the next frame for the link as `pull` does; the ground does not change. If the radio may refuse a frame,
+     * call `advance` once it has taken this one: the frame then counts as sent.
      * @returns {Uint8Array | null}
      */
     peek(): Uint8Array | null;
     /** Counts the next frame for the link as sent, as `pull` does. If nothing is to be sent, nothing changes. */
     advance(): void;
     /**
-     * Takes octets that came from the spacecraft, and returns what they are. Throws LinkFault 6 (Memory), only if they
-     * finish a packet.
+     * Takes octets that came from the spacecraft, and returns what they are. Throws LinkFault 6 (Memory), which is
+     * possible only if they complete a packet.
      * @param {Uint8Array} octets
      * @returns {Heard}
      */
@@ -183,8 +183,9 @@ export class Ground extends Directing {
     telemetryAll(octets: Uint8Array, length: number): Generator<Heard, void, undefined>;
     /**
      * Takes a CLCW that came by itself, as a front end forwards it (232.0-B-4, 4.2), and returns what becomes of it, as
-     * `telemetry` does for the CLCW of a telemetry frame. Telemetry is not touched. The front end may repeat the last
-     * CLCW before the next one, which changes nothing; it may not forward an older one as if it were new.
+     * `telemetry` does for a frame's CLCW. Telemetry is not touched. Until the next CLCW, the front end may repeat the
+     * newest one since the initiation (docs/PROFILE.md, "An idle start"); it must not forward an older one as if it
+     * were new.
      * @param {Uint8Array} word
      * @returns {Heard}
      * @throws {RangeError} unless the octets are four
@@ -192,8 +193,8 @@ export class Ground extends Directing {
     clcw(word: Uint8Array): Heard;
     /**
      * Restarts the extraction of packets from telemetry, for example after a restart of the spacecraft, whose frame
-     * counts then continue elsewhere. An unfinished packet is dropped, and the next frame is the first (132.0-B-3,
-     * 4.3.2). Packets that wait to be taken stay.
+     * counts then continue from other values. An unfinished packet is dropped, and the next frame counts as the first
+     * (132.0-B-3, 4.3.2). Packets that wait to be taken stay.
      */
     forgetTelemetry(): void;
     /**
@@ -219,52 +220,52 @@ export class Ground extends Directing {
      */
     tick(): Alert | null;
     /**
-     * Returns how many of the segments that were sent and not acknowledged were accepted on board when a CLCW of this
+     * Returns how many of the segments that were sent and not acknowledged were accepted on board when a CLCW with this
      * value was made. They are the oldest ones (232.1-B-2, 5.1). The call does so after an alert too, until V(S) is set
-     * or an initiation begins. It uses only the numbers: after an alert that shows a broken condition nothing is known
+     * or an initiation begins. It uses only the numbers: after an alert that shows a broken condition, nothing is known
      * of these segments, whatever the call returns. If V(S) is NN(R), there are no such segments, and the call returns
-     * 0 for every value. Returns null if there are such segments and the value does not lie from NN(R) to V(S), so that
-     * nothing is known of them.
+     * 0 for every value. Returns null if there are such segments and the value does not lie from NN(R) to V(S): nothing
+     * is then known of them.
      * @param {number} value
      * @returns {number | null}
      */
     acceptedBeyond(value: number): number | null;
     /**
-     * Returns how many of the session's submissions, from the first on, are known to be on board whole from a CLCW of
-     * this value. They are those that are acknowledged, and those whose segments were all accepted according to the
-     * CLCW (232.1-B-2, 5.1). The call does so after an alert too. Returns null where nothing is known: no session has
-     * begun, V(S) was set since, an alert has shown a broken condition since, or V(S) is not NN(R) and the value does
-     * not lie from NN(R) to V(S).
+     * Returns how many of the session's submissions, from the first on, a CLCW with this value shows to be on board
+     * whole. They are those that are acknowledged, and those whose segments were all accepted according to the CLCW
+     * (232.1-B-2, 5.1). The call does so after an alert too. Returns null if nothing is known: no session has begun,
+     * V(S) was set since, an alert has shown a broken condition since, or V(S) is not NN(R) and the value does not lie
+     * from NN(R) to V(S).
      * @param {number} value
      * @returns {number | null}
      */
     knownOnBoard(value: number): number | null;
     /**
-     * Begins the next session after an alert, from where the last one has got to. Sets V(S) to the value of a CLCW that
-     * was made when nothing was in transit on the uplink, and begins by Unlock (232.1-B-2, 5.2.4). Returns how many of
-     * the ended session's submissions, from the first on, are on board whole, counted within that session; resubmit
-     * those after them. A submission of several packets that has more octets than a segment takes (part) is whole only
-     * with its last packet. Some of its packets may therefore be on board already, and be delivered again. Throws
-     * LinkFault 10 (NotKnown), and nothing has changed: the sender is not in S6, no session has begun, V(S) was set
-     * since, an alert has shown a broken condition since, or V(S) is not NN(R) and the value does not lie from NN(R) to
-     * V(S).
+     * Begins the next session after an alert, from the point that the ended session reached. Sets V(S) to the value of
+     * a CLCW that was made when nothing was in transit on the uplink, and begins by Unlock (232.1-B-2, 5.2.4). If V(S)
+     * is NN(R), it accepts any value: compare the value with V(S) first. Returns how many of the ended session's
+     * submissions, from the first on, are on board whole; resubmit the rest. A submission of several packets with more
+     * octets than a segment takes (part) is whole only with its last packet: some of its packets may be on board
+     * already, and be delivered again. Changes nothing and throws LinkFault 10 (NotKnown) if the sender is not in S6,
+     * no session has begun, V(S) was set since, an alert has shown a broken condition since, or V(S) is not NN(R) and
+     * the value does not lie from NN(R) to V(S).
      * @param {number} value
      * @returns {number}
      */
     resume(value: number): number;
     /**
-     * The number of submissions of the session; they count from 0. This number and the two below are modulo 2^64, also
-     * after an alert, and 0 once V(S) is set.
+     * The number of submissions of the session, which are numbered from 0. This number and the two below are modulo
+     * 2^64, stay after an alert, and are 0 once V(S) is set.
      * @returns {number}
      */
     get submitted(): number;
     /**
-     * How many of the session's submissions, from the first on, were sent whole, each to its last segment.
+     * How many of the session's submissions, from the first on, were sent whole, up to their last segment.
      * @returns {number}
      */
     get sentWhole(): number;
     /**
-     * How many of the session's submissions, from the first on, are acknowledged whole, so that they are on board.
+     * How many of the session's submissions, from the first on, are acknowledged whole, and are therefore on board.
      * @returns {number}
      */
     get acknowledgedWhole(): number;
@@ -314,7 +315,7 @@ export class Ground extends Directing {
      */
     get count(): number;
     /**
-     * The length of a telemetry frame, in octets.
+     * The length of a telemetry frame in octets.
      * @returns {number}
      */
     get frameLength(): number;
@@ -333,8 +334,8 @@ export class Spacecraft extends Handle {
      */
     constructor(config?: Partial<import("./meanings.mjs").Config> | undefined, kept?: Partial<KeptNumbers> | undefined);
     /**
-     * Takes octets that came from the ground, and returns what they are. Throws LinkFault 6 (Memory), only if a frame's
-     * data are passed on.
+     * Takes octets that came from the ground, and returns what they are. Throws LinkFault 6 (Memory), which is possible
+     * only if a frame's data are passed on.
      * @param {Uint8Array} octets
      * @returns {Received}
      */
@@ -399,7 +400,7 @@ export class Spacecraft extends Handle {
      */
     get bypassed(): number;
     /**
-     * The length of a telemetry frame, in octets.
+     * The length of a telemetry frame in octets.
      * @returns {number}
      */
     get frameLength(): number;

@@ -116,7 +116,7 @@ function fullQueue() {
     refused(() => ground.trySubmit(4, PACKET), LinkFault, 1, 'NotOpen', 'S6');
     ground.initWithoutCheck();
     assert.deepEqual([ground.trySubmit(4, PACKET), ground.trySubmit(4, OTHER), ground.submitted], [0, null, 1]);
-    refused(() => ground.submit(4, OTHER), LinkFault, 5, 'QueueFull', 'as many units wait');
+    refused(() => ground.submit(4, OTHER), LinkFault, 5, 'QueueFull', 'too few free slots');
 }
 
 function configs() {

@@ -25,7 +25,6 @@ RENAMED = {("Spacecraft", "mode"): "state"}
 # What the note of a field says, and what a getter says, which stands by itself.
 FIELD_SAID = (
     (r"^([Tt]he (?:.*? state|state of .*?)), of sedge_\w+", r"\1"),
-    (r"^[Oo]f telemetry, in octets", "the length of a telemetry frame, in octets"),
     (r"^[Tt]he session (?=began|had)", "whether the session "),
     (r"^[Aa] CLCW (?=has taken)", "whether a CLCW "),
 )
@@ -44,11 +43,11 @@ SAID = (
     (r"(\w+), (the \w+), and the number of its octets", r"\1 and \2"),
     (r", and the number of its octets, which is frame_length", ": `frameLength` octets"),
     (r"it and the number of its octets, or 0 octets if", "it, or null if"),
-    (r"; or only 0 octets if", ", or null if"),
+    (r"; or writes only 0 to count if", ", or null if"),
     (r", of sedge_alert, SEDGE_NO_ALERT for none", ", or null for none"),
     (r"\b(W|w)rites\b", lambda it: {"W": "Returns", "w": "returns"}[it[1]]),
     (r" or SEDGE_NODE_ROOM(?=\.)", ""),
-    (r"Returns 0, or SEDGE_NODE_NOT_KNOWN \(10\), and", "Throws LinkFault 10 (NotKnown), and"),
+    (r"returns SEDGE_NODE_NOT_KNOWN \(10\)", "throws LinkFault 10 (NotKnown)"),
     (r"Returns 0, or (?=[^.]*(?:SEDGE_(?:NODE_MEMORY|TM_)|of sedge_node_status))", "Throws "),
     (r"(\d to \d) of sedge_node_status", r"LinkFault \1"),
     (r" ?Returns 0\.", ""),
@@ -57,7 +56,7 @@ ABSENT = r"Returns 0, or SEDGE_NODE_ABSENT(?= if| where)"
 # What the note of an event says, and what a method says; FRAME is the first frame in transit.
 EVENT_SAID = (
     (r"^it is lost", "FRAME is lost"),
-    (r"^these arrive in its place, which are no frame",
+    (r"^these octets arrive instead, and do not form a valid frame",
      "these octets, which must not form a valid frame, arrive instead of FRAME"),
 )
 

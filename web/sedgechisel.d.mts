@@ -290,13 +290,13 @@ export interface sedge_heard {
 
 export interface sedge_ground_reading {
     /**
-     * The number of submissions of the session; they count from 0. This number and the two below are modulo 2^64, also
-     * after an alert, and 0 once V(S) is set.
+     * The number of submissions of the session, which are numbered from 0. This number and the two below are modulo
+     * 2^64, stay after an alert, and are 0 once V(S) is set.
      */
     submitted: bigint;
-    /** How many of the session's submissions, from the first on, were sent whole, each to its last segment. */
+    /** How many of the session's submissions, from the first on, were sent whole, up to their last segment. */
     sent_whole: bigint;
-    /** How many of the session's submissions, from the first on, are acknowledged whole, so that they are on board. */
+    /** How many of the session's submissions, from the first on, are acknowledged whole, and are therefore on board. */
     acknowledged_whole: bigint;
     /** The number of segments that were submitted and are not acknowledged. */
     outstanding: number;
@@ -306,7 +306,7 @@ export interface sedge_ground_reading {
     due: number;
     /** How many bypass packets wait to be sent. */
     bypassed: number;
-    /** Of telemetry, in octets. */
+    /** The length of a telemetry frame in octets. */
     frame_length: number;
     /** The ticks that are left while the timer runs, otherwise 0. */
     ticks: number;
@@ -363,13 +363,13 @@ export interface sedge_received {
 }
 
 export interface sedge_spacecraft_reading {
-    /** Of telemetry, in octets. */
+    /** The length of a telemetry frame in octets. */
     frame_length: number;
     /** How many packets of sequence-controlled frames wait to be taken. */
     ready: number;
     /** How many bypass packets wait to be taken. */
     bypassed: number;
-    /** Of the CLCW that the next frame carries, as in struct `sedge_clcw`. */
+    /** The fields of the CLCW that the next frame carries, as in struct `sedge_clcw`. */
     status: number;
     vcid: number;
     flags: number;
@@ -399,11 +399,11 @@ export interface sedge_reply {
     kind: number;
     /** Of `sedge_refused_by`. */
     by: number;
-    /** Of the enumeration that `by` selects. */
+    /** The number of the refusal, of the enumeration that `by` selects. */
     fault: number;
     /** Of `sedge_alert`. */
     alert: number;
-    /** Of the packet. */
+    /** The MAP of the packet. */
     map: number;
 }
 
@@ -415,7 +415,8 @@ export interface sedge_event {
     /** Of `sedge_directive`. */
     directive: number;
     /**
-     * The directive's, as for `sedge_ground_directive`; or that of the CLCW with which the ground resumes, 0 to 255.
+     * The directive's value, as for `sedge_ground_directive`; or the value of the CLCW with which the ground resumes, 0
+     * to 255.
      */
     value: number;
     /** Where the octets begin. */
@@ -425,7 +426,7 @@ export interface sedge_event {
 export interface sedge_sim_reading {
     /** The number of segments that were submitted and are not acknowledged. */
     outstanding: number;
-    /** How many of the frames sent, from the first on, the ground holds as acknowledged. */
+    /** How many of the frames sent, from the first on, the ground regards as acknowledged. */
     acknowledged: number;
     /** The state of the ground's sender, of `sedge_fop_state`. */
     state: number;
@@ -793,7 +794,10 @@ export interface Calls {
      * number.
      */
     sedge_alert_advice(alert: number): string;
-    /** Writes the default of each parameter. A program begins with these, and sets those that differ in its mission. */
+    /**
+     * Writes the default of each parameter. A program begins with the defaults, and sets the parameters that differ in
+     * its mission.
+     */
     sedge_config_default(config: Partial<sedge_config>): void;
     /**
      * Returns the first parameter that is out of range, of `sedge_parameter`; `SEDGE_NO_PARAMETER` for none. A `width`
@@ -805,25 +809,25 @@ export interface Calls {
     /** The name of a `sedge_node_status`, 1 to 6 and 10; "?" for another number. */
     sedge_link_fault_name(number: number): string;
     /**
-     * Opens a ground instead of one that the handle holds. The old ground is released once the new one is built: a
-     * refusal leaves it, and until then both have memory. If there is memory only for one, close the handle first.
-     * Returns 0, `SEDGE_NODE_OUT_OF_RANGE` or `SEDGE_NODE_MEMORY`.
+     * Opens a ground, which replaces any ground that the handle holds. The old ground is released once the new one is
+     * built: it stays if the call is refused, and until then both occupy memory. If there is memory only for one, close
+     * the handle first. Returns 0, `SEDGE_NODE_OUT_OF_RANGE` or `SEDGE_NODE_MEMORY`.
      */
     sedge_ground_open(ground: Partial<sedge_ground>, config: Partial<sedge_config>): number;
     /** Closes the ground, if there is one; the handle then holds none. */
     sedge_ground_close(ground: Partial<sedge_ground>): void;
     /**
      * Gives the ground's sender a directive, of `sedge_directive` (sedgechisel.h), with its value; a directive without
-     * a value ignores it. Returns 0; or `SEDGE_COP_WRONG_STATE`; or for a value out of range `SEDGE_COP_WINDOW`,
-     * `SEDGE_COP_LIMIT` or `SEDGE_COP_TIMER`; or `SEDGE_NODE_NONE`, also for a number that is not a directive, and for
-     * a V(R) or V(S) above 255.
+     * a value ignores it. Returns 0, or `SEDGE_COP_WRONG_STATE`, or for a value out of range `SEDGE_COP_WINDOW`,
+     * `SEDGE_COP_LIMIT` or `SEDGE_COP_TIMER`. Returns `SEDGE_NODE_NONE` also for a number that is not a directive, and
+     * for a V(R) or V(S) above 255.
      */
     sedge_ground_directive(ground: Partial<sedge_ground>, directive: number, value: number): number;
     /**
-     * Submits one packet on a MAP under sequence control, or several if blocking is on. Returns 0, or the first of 1 to
-     * 5 of `sedge_node_status` that applies, or `SEDGE_NODE_MEMORY`. `sedge_map_count` writes the number of their
-     * segments. The promise that `sedge_ground_resume` counts a submission correctly covers one packet, and packets
-     * that share one segment.
+     * Submits one packet on a MAP under sequence control, or several if blocking is on. `sedge_map_count` writes the
+     * number of their segments. The promise that `sedge_ground_resume` counts a submission correctly covers one packet,
+     * and packets that share one segment. Returns 0, or the first of 1 to 5 of `sedge_node_status` that applies, or
+     * `SEDGE_NODE_MEMORY`.
      */
     sedge_ground_submit(ground: Partial<sedge_ground>, map: number, octets: Uint8Array): number;
     /**
@@ -841,9 +845,9 @@ export interface Calls {
      */
     sedge_ground_pull(ground: Partial<sedge_ground>, out: Uint8Array, count: Partial<Box>): number;
     /**
-     * Writes the next frame for the link as `sedge_ground_pull` does; the ground does not change. Call
-     * `sedge_ground_advance`, and the frame counts as sent, once a radio that may refuse it has taken it. Returns 0 or
-     * `SEDGE_NODE_ROOM`.
+     * Writes the next frame for the link as `sedge_ground_pull` does; the ground does not change. If the radio may
+     * refuse a frame, call `sedge_ground_advance` once it has taken this one: the frame then counts as sent. Returns 0
+     * or `SEDGE_NODE_ROOM`.
      */
     sedge_ground_peek(ground: Partial<sedge_ground>, out: Uint8Array, count: Partial<Box>): number;
     /**
@@ -852,21 +856,21 @@ export interface Calls {
      */
     sedge_ground_advance(ground: Partial<sedge_ground>): number;
     /**
-     * Takes octets that came from the spacecraft, and writes what they are. Returns 0, or `SEDGE_NODE_MEMORY`, only if
-     * they finish a packet.
+     * Takes octets that came from the spacecraft, and writes what they are. Returns 0, or `SEDGE_NODE_MEMORY`, which is
+     * possible only if they complete a packet.
      */
     sedge_ground_telemetry(ground: Partial<sedge_ground>, octets: Uint8Array, heard: Partial<sedge_heard>): number;
     /**
      * Takes a CLCW that came by itself, as a front end forwards it (232.0-B-4, 4.2), and writes what becomes of it, as
-     * `sedge_ground_telemetry` does for the CLCW of a telemetry frame. Telemetry is not touched. The front end may
-     * repeat the last CLCW before the next one, which changes nothing; it may not forward an older one as if it were
-     * new. Returns 0, or `SEDGE_NODE_ABSENT` if the octets are not four.
+     * `sedge_ground_telemetry` does for a frame's CLCW. Telemetry is not touched. Until the next CLCW, the front end
+     * may repeat the newest one since the initiation (docs/PROFILE.md, "An idle start"); it must not forward an older
+     * one as if it were new. Returns 0, or `SEDGE_NODE_ABSENT` if the octets are not four.
      */
     sedge_ground_clcw(ground: Partial<sedge_ground>, octets: Uint8Array, heard: Partial<sedge_heard>): number;
     /**
      * Restarts the extraction of packets from telemetry, for example after a restart of the spacecraft, whose frame
-     * counts then continue elsewhere. An unfinished packet is dropped, and the next frame is the first (132.0-B-3,
-     * 4.3.2). Packets that wait to be taken stay. Returns 0.
+     * counts then continue from other values. An unfinished packet is dropped, and the next frame counts as the first
+     * (132.0-B-3, 4.3.2). Packets that wait to be taken stay. Returns 0.
      */
     sedge_ground_forget_telemetry(ground: Partial<sedge_ground>): number;
     /**
@@ -885,42 +889,42 @@ export interface Calls {
     /** Counts a tick of the clock. Returns the alert, of `sedge_alert`, `SEDGE_NO_ALERT` for none. */
     sedge_ground_tick(ground: Partial<sedge_ground>): number;
     /**
-     * Reads the ground: how far its submissions have come, the sender's state, V(S), NN(R), transmission count and
-     * timer, what is outstanding and what waits, and how many octets a telemetry frame has. The ground does not change.
+     * Reads the ground: how far its submissions have come; the sender's state, V(S), NN(R), transmission count and
+     * timer; what is outstanding and what waits; and the length of a telemetry frame. The ground does not change.
      * Returns 0.
      */
     sedge_ground_read(ground: Partial<sedge_ground>, read: Partial<sedge_ground_reading>): number;
     /**
-     * Writes how many of the segments that were sent and not acknowledged were accepted on board when a CLCW of this
+     * Writes how many of the segments that were sent and not acknowledged were accepted on board when a CLCW with this
      * value was made. They are the oldest ones (232.1-B-2, 5.1). The call does so after an alert too, until V(S) is set
-     * or an initiation begins. It uses only the numbers: after an alert that shows a broken condition nothing is known
+     * or an initiation begins. It uses only the numbers: after an alert that shows a broken condition, nothing is known
      * of these segments, whatever the call writes. If V(S) is NN(R), there are no such segments, and the call writes 0
      * for every value. Returns 0, or `SEDGE_NODE_ABSENT` if there are such segments and the value does not lie from
-     * NN(R) to V(S), so that nothing is known of them.
+     * NN(R) to V(S): nothing is then known of them.
      */
     sedge_ground_accepted_beyond(ground: Partial<sedge_ground>, value: number, accepted: Partial<Box>): number;
     /**
-     * Writes how many of the session's submissions, from the first on, are known to be on board whole from a CLCW of
-     * this value. They are those that are acknowledged, and those whose segments were all accepted according to the
-     * CLCW (232.1-B-2, 5.1). The call does so after an alert too. Returns 0, or `SEDGE_NODE_ABSENT` where nothing is
-     * known: no session has begun, V(S) was set since, an alert has shown a broken condition since, or V(S) is not
-     * NN(R) and the value does not lie from NN(R) to V(S).
+     * Writes how many of the session's submissions, from the first on, a CLCW with this value shows to be on board
+     * whole. They are those that are acknowledged, and those whose segments were all accepted according to the CLCW
+     * (232.1-B-2, 5.1). The call does so after an alert too. Returns 0, or `SEDGE_NODE_ABSENT` if nothing is known: no
+     * session has begun, V(S) was set since, an alert has shown a broken condition since, or V(S) is not NN(R) and the
+     * value does not lie from NN(R) to V(S).
      */
     sedge_ground_known_on_board(ground: Partial<sedge_ground>, value: number, whole: Partial<Box>): number;
     /**
-     * Begins the next session after an alert, from where the last one has got to. Sets V(S) to the value of a CLCW that
-     * was made when nothing was in transit on the uplink, and begins by Unlock (232.1-B-2, 5.2.4). Writes how many of
-     * the ended session's submissions, from the first on, are on board whole, counted within that session; resubmit
-     * those after them. A submission of several packets that has more octets than a segment takes (`part`) is whole
-     * only with its last packet. Some of its packets may therefore be on board already, and be delivered again. Returns
-     * 0, or `SEDGE_NODE_NOT_KNOWN` (10), and nothing has changed: the sender is not in S6, no session has begun, V(S)
-     * was set since, an alert has shown a broken condition since, or V(S) is not NN(R) and the value does not lie from
-     * NN(R) to V(S).
+     * Begins the next session after an alert, from the point that the ended session reached. Sets V(S) to the value of
+     * a CLCW that was made when nothing was in transit on the uplink, and begins by Unlock (232.1-B-2, 5.2.4). If V(S)
+     * is NN(R), it accepts any value: compare the value with V(S) first. Writes how many of the ended session's
+     * submissions, from the first on, are on board whole; resubmit the rest. A submission of several packets with more
+     * octets than a segment takes (`part`) is whole only with its last packet: some of its packets may be on board
+     * already, and be delivered again. Returns 0. Changes nothing and returns `SEDGE_NODE_NOT_KNOWN` (10) if the sender
+     * is not in S6, no session has begun, V(S) was set since, an alert has shown a broken condition since, or V(S) is
+     * not NN(R) and the value does not lie from NN(R) to V(S).
      */
     sedge_ground_resume(ground: Partial<sedge_ground>, value: number, whole: Partial<Box>): number;
     /**
-     * Writes the ground's record, which has a fixed size; the ground does not change. A program stores the record after
-     * each call, and after a pull before the frame goes out. If the ground is lost, `sedge_ground_open_kept` opens
+     * Writes the ground's record, which has a fixed size; the ground does not change. Store the record after each call,
+     * and after `sedge_ground_pull` before the frame is sent. If the ground is lost, `sedge_ground_open_kept` opens
      * another one from the record. The record contains nothing of submissions that were not sent whole, of bypass
      * packets, of telemetry, or of what directives set. Returns 0.
      */
@@ -928,31 +932,31 @@ export interface Calls {
     /**
      * Opens a ground that continues, in S6, from the record that `sedge_ground_kept` wrote of a lost one: with its
      * V(S), its NN(R) and its counts of submissions. The new ground is the lost one after Terminate, without what
-     * waited, and with the window, the limit and the timer of the configuration. So `sedge_ground_resume` begins the
+     * waited, and with the window, the limit and the timer of the configuration. So `sedge_ground_resume` can begin the
      * next session, as after an alert. A ground that the handle holds is treated as by `sedge_ground_open`. Returns 0,
      * `SEDGE_NODE_OUT_OF_RANGE` (also for a record that no ground of this configuration writes) or `SEDGE_NODE_MEMORY`.
      */
     sedge_ground_open_kept(ground: Partial<sedge_ground>, config: Partial<sedge_config>, kept: Partial<sedge_kept_ground>): number;
     /**
-     * Opens a spacecraft instead of one that the handle holds, as `sedge_ground_open` does. Returns 0,
+     * Opens a spacecraft, which replaces any that the handle holds, as `sedge_ground_open` does. Returns 0,
      * `SEDGE_NODE_OUT_OF_RANGE` or `SEDGE_NODE_MEMORY`.
      */
     sedge_spacecraft_open(spacecraft: Partial<sedge_spacecraft>, config: Partial<sedge_config>): number;
     /** Closes the spacecraft, if there is one; the handle then holds none. */
     sedge_spacecraft_close(spacecraft: Partial<sedge_spacecraft>): void;
     /**
-     * Takes octets that came from the ground, and writes what they are. Returns 0, or `SEDGE_NODE_MEMORY`, only if a
-     * frame's data are passed on.
+     * Takes octets that came from the ground, and writes what they are. Returns 0, or `SEDGE_NODE_MEMORY`, which is
+     * possible only if a frame's data are passed on.
      */
     sedge_spacecraft_receive(spacecraft: Partial<sedge_spacecraft>, octets: Uint8Array, received: Partial<sedge_received>): number;
     /**
      * Writes the MAP of the oldest packet of sequence-controlled frames, and the number of its octets, 7 to 65,542; or
-     * only 0 octets if none waits. Returns 0.
+     * writes only 0 to `count` if none waits. Returns 0.
      */
     sedge_spacecraft_next(spacecraft: Partial<sedge_spacecraft>, map: Partial<Box>, count: Partial<Box>): number;
     /**
      * Takes the oldest packet of sequence-controlled frames (232.0-B-4, 4.4). Writes its MAP, the packet, and the
-     * number of its octets; or only 0 octets if none waits. Returns 0 or `SEDGE_NODE_ROOM`.
+     * number of its octets; or writes only 0 to `count` if none waits. Returns 0 or `SEDGE_NODE_ROOM`.
      */
     sedge_spacecraft_take(spacecraft: Partial<sedge_spacecraft>, map: Partial<Box>, out: Uint8Array, count: Partial<Box>): number;
     /**
@@ -974,38 +978,37 @@ export interface Calls {
      */
     sedge_spacecraft_telemetry_frame(spacecraft: Partial<sedge_spacecraft>, out: Uint8Array, count: Partial<Box>): number;
     /**
-     * Reads the spacecraft: how many octets a telemetry frame has, how many packets wait, the CLCW that the next frame
-     * carries, its counts, and the receiver's state. The spacecraft does not change. Returns 0.
+     * Reads the spacecraft: the length of a telemetry frame, how many packets wait, the CLCW that the next frame
+     * carries, that frame's counts, and the receiver's state. The spacecraft does not change. Returns 0.
      */
     sedge_spacecraft_read(spacecraft: Partial<sedge_spacecraft>, read: Partial<sedge_spacecraft_reading>): number;
     /**
-     * Opens a spacecraft that continues with what `sedge_spacecraft_read` wrote before a deliberate restart: V(R),
-     * which is `value` there, `farm_b`, and the telemetry frame counts. The other fields are not read. The receiver is
-     * Open with no flag set, and no packet is on board. A spacecraft that the handle holds is treated as by
-     * `sedge_spacecraft_open`. Returns 0, `SEDGE_NODE_OUT_OF_RANGE` (also if `farm_b` is not below 4) or
-     * `SEDGE_NODE_MEMORY`.
+     * Opens a spacecraft that continues with what `sedge_spacecraft_read` wrote before a deliberate restart: V(R) (in
+     * `value`), `farm_b`, and the telemetry frame counts. The other fields are not read. The receiver is Open with no
+     * flag set, and no packet is on board. Replaces a spacecraft as `sedge_spacecraft_open` does. Returns 0,
+     * `SEDGE_NODE_OUT_OF_RANGE` (also if `farm_b` is above 3) or `SEDGE_NODE_MEMORY`.
      */
     sedge_spacecraft_open_kept(spacecraft: Partial<sedge_spacecraft>, config: Partial<sedge_config>, kept: Partial<sedge_spacecraft_reading>): number;
     /**
-     * Opens a link with two new nodes instead of one that the handle holds, as `sedge_ground_open` does. Returns 0,
-     * `SEDGE_NODE_OUT_OF_RANGE` or `SEDGE_NODE_MEMORY`.
+     * Opens a link with two new nodes, which replaces any that the handle holds, as `sedge_ground_open` does. Returns
+     * 0, `SEDGE_NODE_OUT_OF_RANGE` or `SEDGE_NODE_MEMORY`.
      */
     sedge_sim_open(sim: Partial<sedge_sim>, config: Partial<sedge_config>): number;
     /** Closes the link, if there is one; the handle then holds none. */
     sedge_sim_close(sim: Partial<sedge_sim>): void;
-    /** The name of a `sedge_sim_fault`; "?" for another number. */
+    /** Returns the name of a `sedge_sim_fault`; "?" for another number. */
     sedge_sim_fault_name(number: number): string;
     /**
-     * Lets an event happen. Returns 0 and writes the reply; or a number of `sedge_sim_fault`, and nothing happens; or
-     * `SEDGE_NODE_NONE`, also for a number that is not a kind, for a directive and a value if `sedge_ground_directive`
-     * returns it for them, and for a value above 255 with which the ground is to resume. No directive, resumption,
-     * loss, damage, CLCW by itself, tick or take returns `SEDGE_SIM_MEMORY`. A node's refusal is a reply. The octets of
-     * a frame that was sent, and of a packet that was taken, can be read until the next event (`sedge_sim_octets`).
+     * Lets an event happen. Returns 0 and writes the reply; a node's refusal is a reply too. Returns a number of
+     * `sedge_sim_fault` if nothing happens. Returns `SEDGE_NODE_NONE` also for a number that is not a kind, for a
+     * directive and a value for which `sedge_ground_directive` returns it, and for a resumption with a value above 255.
+     * No directive, resumption, loss, damage, CLCW by itself, tick or take returns `SEDGE_SIM_MEMORY`. The octets of a
+     * frame that was sent, and of a packet that was taken, can be read until the next event (`sedge_sim_octets`).
      */
     sedge_sim_step(sim: Partial<sedge_sim>, event: Partial<sedge_event>, reply: Partial<sedge_reply>): number;
     /**
      * Writes the octets of the last event's frame or packet, and their number, which is the reply's `count`; or 0
-     * octets if the reply had none. The octets stay. Returns 0 or `SEDGE_NODE_ROOM`.
+     * octets if the reply had none. They can be read again. Returns 0 or `SEDGE_NODE_ROOM`.
      */
     sedge_sim_octets(sim: Partial<sedge_sim>, out: Uint8Array, count: Partial<Box>): number;
     /** Reads the link: how the session began and how far it is. The link does not change. Returns 0. */
@@ -1032,12 +1035,12 @@ export interface Calls {
     sedge_sim_submission(sim: Partial<sedge_sim>, k: number, map: Partial<Box>, out: Uint8Array, count: Partial<Box>): number;
     /**
      * Writes how many entries a record has, of `sedge_record`; the MAP matters only for `SEDGE_SUBMITTED` and
-     * `SEDGE_DELIVERED`. For any other number there are none. Returns 0.
+     * `SEDGE_DELIVERED`. For any other number, writes 0. Returns 0.
      */
     sedge_sim_count(sim: Partial<sedge_sim>, record: number, map: number, entries: Partial<Box>): number;
     /**
-     * Writes how many octets entry `k` has, counted from 0. Returns 0, or `SEDGE_NODE_ABSENT` if there are not so many
-     * entries.
+     * Writes how many octets entry `k` has, counted from 0. Returns 0, or `SEDGE_NODE_ABSENT` if there are not that
+     * many entries.
      */
     sedge_sim_entry_length(sim: Partial<sedge_sim>, record: number, map: number, k: number, count: Partial<Box>): number;
     /**

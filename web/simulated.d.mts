@@ -114,7 +114,7 @@ export class Link extends Directing {
      */
     get outstanding(): number;
     /**
-     * How many of the frames sent, from the first on, the ground holds as acknowledged.
+     * How many of the frames sent, from the first on, the ground regards as acknowledged.
      * @returns {number}
      */
     get acknowledged(): number;

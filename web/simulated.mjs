@@ -245,7 +245,7 @@ export class Link extends Directing {
     }
 
     /**
-     * How many of the frames sent, from the first on, the ground holds as acknowledged.
+     * How many of the frames sent, from the first on, the ground regards as acknowledged.
      * @returns {number}
      */
     get acknowledged() {

@@ -231,9 +231,9 @@ class LinkFault(Fault):
     _meanings = {
         1: "the sender is in its state Initial (S6)",
         2: "the MAP is not open",
-        3: "the octets are not command packets, or not as many as one call takes",
+        3: "the octets are not command packets, or are more of them than one call takes",
         4: "a packet has more octets than it may have",
-        5: "as many units wait as may wait",
+        5: "the queue has too few free slots for the units",
         6: "out of memory",
         10: "nothing is known of how far the session has come",
     }

@@ -9,9 +9,9 @@ use c_words::directive_named;
 use std::alloc::Global;
 
 /// Gives the ground's sender a directive, of `sedge_directive` (sedgechisel.h), with its value; a directive
-/// without a value ignores it. Returns 0; or `SEDGE_COP_WRONG_STATE`; or for a value out of range
-/// `SEDGE_COP_WINDOW`, `SEDGE_COP_LIMIT` or `SEDGE_COP_TIMER`; or `SEDGE_NODE_NONE`, also for a number that
-/// is not a directive, and for a V(R) or V(S) above 255.
+/// without a value ignores it. Returns 0, or `SEDGE_COP_WRONG_STATE`, or for a value out of range
+/// `SEDGE_COP_WINDOW`, `SEDGE_COP_LIMIT` or `SEDGE_COP_TIMER`. Returns `SEDGE_NODE_NONE` also for a number
+/// that is not a directive, and for a V(R) or V(S) above 255.
 #[unsafe(no_mangle)]
 #[must_use]
 pub extern "C" fn sedge_ground_directive(

@@ -64,8 +64,8 @@ fn kept_in(written: &GroundKept) -> KeptGround
     }
 }
 
-/// Writes the ground's record, which has a fixed size; the ground does not change. A program stores the
-/// record after each call, and after a pull before the frame goes out. If the ground is lost,
+/// Writes the ground's record, which has a fixed size; the ground does not change. Store the record after
+/// each call, and after `sedge_ground_pull` before the frame is sent. If the ground is lost,
 /// `sedge_ground_open_kept` opens another one from the record. The record contains nothing of submissions
 /// that were not sent whole, of bypass packets, of telemetry, or of what directives set. Returns 0.
 #[unsafe(no_mangle)]
@@ -82,7 +82,7 @@ pub extern "C" fn sedge_ground_kept(
 /// Opens a ground that continues, in S6, from the record that `sedge_ground_kept` wrote of a lost one: with
 /// its V(S), its NN(R) and its counts of submissions. The new ground is the lost one after Terminate, without
 /// what waited, and with the window, the limit and the timer of the configuration. So `sedge_ground_resume`
-/// begins the next session, as after an alert. A ground that the handle holds is treated as by
+/// can begin the next session, as after an alert. A ground that the handle holds is treated as by
 /// `sedge_ground_open`. Returns 0, `SEDGE_NODE_OUT_OF_RANGE` (also for a record that no ground of this
 /// configuration writes) or `SEDGE_NODE_MEMORY`.
 #[unsafe(no_mangle)]

@@ -97,8 +97,8 @@ pub extern "C" fn sedge_ground_pull(
     })
 }
 
-/// Writes the next frame for the link as `sedge_ground_pull` does; the ground does not change. Call
-/// `sedge_ground_advance`, and the frame counts as sent, once a radio that may refuse it has taken it.
+/// Writes the next frame for the link as `sedge_ground_pull` does; the ground does not change. If the radio
+/// may refuse a frame, call `sedge_ground_advance` once it has taken this one: the frame then counts as sent.
 /// Returns 0 or `SEDGE_NODE_ROOM`.
 #[unsafe(no_mangle)]
 #[must_use]

@@ -103,7 +103,7 @@ pub(crate) fn kept_heard(heard: Heard) -> KeptHeard
 }
 
 /// Takes octets that came from the spacecraft, and writes what they are. Returns 0, or `SEDGE_NODE_MEMORY`,
-/// only if they finish a packet.
+/// which is possible only if they complete a packet.
 #[unsafe(no_mangle)]
 #[must_use]
 pub extern "C" fn sedge_ground_telemetry(
@@ -154,9 +154,9 @@ pub(crate) fn kept_word(word: HeardClcw) -> KeptHeard
 }
 
 /// Takes a CLCW that came by itself, as a front end forwards it (232.0-B-4, 4.2), and writes what becomes of
-/// it, as `sedge_ground_telemetry` does for the CLCW of a telemetry frame. Telemetry is not touched. The
-/// front end may repeat the last CLCW before the next one, which changes nothing; it may not forward an older
-/// one as if it were new. Returns 0, or `SEDGE_NODE_ABSENT` if the octets are not four.
+/// it, as `sedge_ground_telemetry` does for a frame's CLCW. Telemetry is not touched. Until the next CLCW,
+/// the front end may repeat the newest one since the initiation (docs/PROFILE.md, "An idle start"); it must
+/// not forward an older one as if it were new. Returns 0, or `SEDGE_NODE_ABSENT` if the octets are not four.
 #[unsafe(no_mangle)]
 #[must_use]
 pub extern "C" fn sedge_ground_clcw(
@@ -178,8 +178,8 @@ pub extern "C" fn sedge_ground_clcw(
 }
 
 /// Restarts the extraction of packets from telemetry, for example after a restart of the spacecraft, whose
-/// frame counts then continue elsewhere. An unfinished packet is dropped, and the next frame is the first
-/// (132.0-B-3, 4.3.2). Packets that wait to be taken stay. Returns 0.
+/// frame counts then continue from other values. An unfinished packet is dropped, and the next frame counts
+/// as the first (132.0-B-3, 4.3.2). Packets that wait to be taken stay. Returns 0.
 #[unsafe(no_mangle)]
 pub extern "C" fn sedge_ground_forget_telemetry(alloc: Global, ground: &mut GroundHandle) -> u8
     ensures none { ground.old.value ≡ None → result ≡ closed }

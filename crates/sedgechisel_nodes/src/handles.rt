@@ -67,9 +67,9 @@ impl Holds for GroundHandle {
     }
 }
 
-/// Opens a ground instead of one that the handle holds. The old ground is released once the new one is built:
-/// a refusal leaves it, and until then both have memory. If there is memory only for one, close the handle
-/// first. Returns 0, `SEDGE_NODE_OUT_OF_RANGE` or `SEDGE_NODE_MEMORY`.
+/// Opens a ground, which replaces any ground that the handle holds. The old ground is released once the new
+/// one is built: it stays if the call is refused, and until then both occupy memory. If there is memory only
+/// for one, close the handle first. Returns 0, `SEDGE_NODE_OUT_OF_RANGE` or `SEDGE_NODE_MEMORY`.
 #[unsafe(no_mangle)]
 #[must_use]
 pub extern "C" fn sedge_ground_open(alloc: Global, ground: &mut GroundHandle, config: &Config) -> u8
@@ -118,7 +118,7 @@ impl Holds for SpacecraftHandle {
     }
 }
 
-/// Opens a spacecraft instead of one that the handle holds, as `sedge_ground_open` does. Returns 0,
+/// Opens a spacecraft, which replaces any that the handle holds, as `sedge_ground_open` does. Returns 0,
 /// `SEDGE_NODE_OUT_OF_RANGE` or `SEDGE_NODE_MEMORY`.
 #[unsafe(no_mangle)]
 #[must_use]
@@ -132,10 +132,10 @@ pub extern "C" fn sedge_spacecraft_open(
     opened!(alloc, spacecraft, config, Spacecraft::of)
 }
 
-/// Opens a spacecraft that continues with what `sedge_spacecraft_read` wrote before a deliberate restart: V(R), which
-/// is `value` there, `farm_b`, and the telemetry frame counts. The other fields are not read. The receiver is Open with
-/// no flag set, and no packet is on board. A spacecraft that the handle holds is treated as by `sedge_spacecraft_open`.
-/// Returns 0, `SEDGE_NODE_OUT_OF_RANGE` (also if `farm_b` is not below 4) or `SEDGE_NODE_MEMORY`.
+/// Opens a spacecraft that continues with what `sedge_spacecraft_read` wrote before a deliberate restart:
+/// V(R) (in `value`), `farm_b`, and the telemetry frame counts. The other fields are not read. The receiver
+/// is Open with no flag set, and no packet is on board. Replaces a spacecraft as `sedge_spacecraft_open`
+/// does. Returns 0, `SEDGE_NODE_OUT_OF_RANGE` (also if `farm_b` is above 3) or `SEDGE_NODE_MEMORY`.
 #[unsafe(no_mangle)]
 #[must_use]
 pub extern "C" fn sedge_spacecraft_open_kept(
@@ -212,8 +212,8 @@ impl Holds for SimHandle {
     }
 }
 
-/// Opens a link with two new nodes instead of one that the handle holds, as `sedge_ground_open` does. Returns
-/// 0, `SEDGE_NODE_OUT_OF_RANGE` or `SEDGE_NODE_MEMORY`.
+/// Opens a link with two new nodes, which replaces any that the handle holds, as `sedge_ground_open` does.
+/// Returns 0, `SEDGE_NODE_OUT_OF_RANGE` or `SEDGE_NODE_MEMORY`.
 #[unsafe(no_mangle)]
 #[must_use]
 pub extern "C" fn sedge_sim_open(alloc: Global, sim: &mut SimHandle, config: &Config) -> u8

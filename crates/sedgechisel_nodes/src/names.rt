@@ -29,7 +29,7 @@ pub extern "C" fn sedge_link_fault_name(number: u8) -> Text
         10 => NotKnown)
 }
 
-/// The name of a `sedge_sim_fault`; "?" for another number.
+/// Returns the name of a `sedge_sim_fault`; "?" for another number.
 #[unsafe(no_mangle)]
 pub extern "C" fn sedge_sim_fault_name(number: u8) -> Text
     ensures { result.text ≡ text_of (sim_fault_word number) }

@@ -35,8 +35,8 @@ pub extern "C" fn sedge_config_fault(config: &Config) -> u8
     }
 }
 
-/// Writes the default of each parameter. A program begins with these, and sets those that differ in its
-/// mission.
+/// Writes the default of each parameter. A program begins with the defaults, and sets the parameters that
+/// differ in its mission.
 #[unsafe(no_mangle)]
 pub extern "C" fn sedge_config_default(config: &mut Config)
     ensures { config.new ≡ default_config }

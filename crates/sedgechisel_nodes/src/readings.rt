@@ -18,12 +18,12 @@ use std::alloc::Global;
 #[repr(C)]
 #[derive(Clone, Copy)]
 pub struct GroundReading {
-    /// The number of submissions of the session; they count from 0. This number and the two below are modulo
-    /// 2^64, also after an alert, and 0 once V(S) is set.
+    /// The number of submissions of the session, which are numbered from 0. This number and the two below are
+    /// modulo 2^64, stay after an alert, and are 0 once V(S) is set.
     pub submitted: u64,
-    /// How many of the session's submissions, from the first on, were sent whole, each to its last segment.
+    /// How many of the session's submissions, from the first on, were sent whole, up to their last segment.
     pub sent_whole: u64,
-    /// How many of the session's submissions, from the first on, are acknowledged whole, so that they are on
+    /// How many of the session's submissions, from the first on, are acknowledged whole, and are therefore on
     /// board.
     pub acknowledged_whole: u64,
     /// The number of segments that were submitted and are not acknowledged.
@@ -34,7 +34,7 @@ pub struct GroundReading {
     pub due: usize,
     /// How many bypass packets wait to be sent.
     pub bypassed: usize,
-    /// Of telemetry, in octets.
+    /// The length of a telemetry frame in octets.
     pub frame_length: usize,
     /// The ticks that are left while the timer runs, otherwise 0.
     pub ticks: u16,
@@ -74,9 +74,9 @@ pub(crate) fn reading(node: &Ground) -> GroundReading
     }
 }
 
-/// Reads the ground: how far its submissions have come, the sender's state, V(S), NN(R), transmission count
-/// and timer, what is outstanding and what waits, and how many octets a telemetry frame has. The ground does
-/// not change. Returns 0.
+/// Reads the ground: how far its submissions have come; the sender's state, V(S), NN(R), transmission count
+/// and timer; what is outstanding and what waits; and the length of a telemetry frame. The ground does not
+/// change. Returns 0.
 #[unsafe(no_mangle)]
 pub extern "C" fn sedge_ground_read(
     alloc: Global,
@@ -95,13 +95,13 @@ pub extern "C" fn sedge_ground_read(
 #[repr(C)]
 #[derive(Clone, Copy)]
 pub struct BoardReading {
-    /// Of telemetry, in octets.
+    /// The length of a telemetry frame in octets.
     pub frame_length: usize,
     /// How many packets of sequence-controlled frames wait to be taken.
     pub ready: usize,
     /// How many bypass packets wait to be taken.
     pub bypassed: usize,
-    /// Of the CLCW that the next frame carries, as in struct `sedge_clcw`.
+    /// The fields of the CLCW that the next frame carries, as in struct `sedge_clcw`.
     pub status: u8,
     pub vcid: u8,
     pub flags: u8,
@@ -141,8 +141,8 @@ pub(crate) fn board_reading(node: &Spacecraft) -> BoardReading
     }
 }
 
-/// Reads the spacecraft: how many octets a telemetry frame has, how many packets wait, the CLCW that the next
-/// frame carries, its counts, and the receiver's state. The spacecraft does not change. Returns 0.
+/// Reads the spacecraft: the length of a telemetry frame, how many packets wait, the CLCW that the next frame
+/// carries, that frame's counts, and the receiver's state. The spacecraft does not change. Returns 0.
 #[unsafe(no_mangle)]
 pub extern "C" fn sedge_spacecraft_read(
     alloc: Global,
@@ -155,12 +155,12 @@ pub extern "C" fn sedge_spacecraft_read(
     read!(alloc, spacecraft, read, |node| board_reading(&node))
 }
 
-/// Writes how many of the segments that were sent and not acknowledged were accepted on board when a CLCW of
-/// this value was made. They are the oldest ones (232.1-B-2, 5.1). The call does so after an alert too, until
-/// V(S) is set or an initiation begins. It uses only the numbers: after an alert that shows a broken
-/// condition nothing is known of these segments, whatever the call writes. If V(S) is NN(R), there are no
+/// Writes how many of the segments that were sent and not acknowledged were accepted on board when a CLCW
+/// with this value was made. They are the oldest ones (232.1-B-2, 5.1). The call does so after an alert too,
+/// until V(S) is set or an initiation begins. It uses only the numbers: after an alert that shows a broken
+/// condition, nothing is known of these segments, whatever the call writes. If V(S) is NN(R), there are no
 /// such segments, and the call writes 0 for every value. Returns 0, or `SEDGE_NODE_ABSENT` if there are such
-/// segments and the value does not lie from NN(R) to V(S), so that nothing is known of them.
+/// segments and the value does not lie from NN(R) to V(S): nothing is then known of them.
 #[unsafe(no_mangle)]
 #[must_use]
 pub extern "C" fn sedge_ground_accepted_beyond(
@@ -179,11 +179,11 @@ pub extern "C" fn sedge_ground_accepted_beyond(
     )
 }
 
-/// Writes how many of the session's submissions, from the first on, are known to be on board whole from a
-/// CLCW of this value. They are those that are acknowledged, and those whose segments were all accepted
-/// according to the CLCW (232.1-B-2, 5.1). The call does so after an alert too. Returns 0, or
-/// `SEDGE_NODE_ABSENT` where nothing is known: no session has begun, V(S) was set since, an alert has shown a
-/// broken condition since, or V(S) is not NN(R) and the value does not lie from NN(R) to V(S).
+/// Writes how many of the session's submissions, from the first on, a CLCW with this value shows to be on
+/// board whole. They are those that are acknowledged, and those whose segments were all accepted according to
+/// the CLCW (232.1-B-2, 5.1). The call does so after an alert too. Returns 0, or `SEDGE_NODE_ABSENT` if
+/// nothing is known: no session has begun, V(S) was set since, an alert has shown a broken condition since,
+/// or V(S) is not NN(R) and the value does not lie from NN(R) to V(S).
 #[unsafe(no_mangle)]
 #[must_use]
 pub extern "C" fn sedge_ground_known_on_board(

@@ -96,8 +96,8 @@ pub(crate) fn kept_received(received: Received) -> KeptReceived
     }
 }
 
-/// Takes octets that came from the ground, and writes what they are. Returns 0, or `SEDGE_NODE_MEMORY`, only
-/// if a frame's data are passed on.
+/// Takes octets that came from the ground, and writes what they are. Returns 0, or `SEDGE_NODE_MEMORY`, which
+/// is possible only if a frame's data are passed on.
 #[unsafe(no_mangle)]
 #[must_use]
 pub extern "C" fn sedge_spacecraft_receive(

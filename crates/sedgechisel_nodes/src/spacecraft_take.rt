@@ -50,7 +50,7 @@ fn described(
 }
 
 /// Writes the MAP of the oldest packet of sequence-controlled frames, and the number of its octets, 7 to
-/// 65,542; or only 0 octets if none waits. Returns 0.
+/// 65,542; or writes only 0 to `count` if none waits. Returns 0.
 #[unsafe(no_mangle)]
 pub extern "C" fn sedge_spacecraft_next(
     alloc: Global,
@@ -98,7 +98,7 @@ fn taken(
 }
 
 /// Takes the oldest packet of sequence-controlled frames (232.0-B-4, 4.4). Writes its MAP, the packet, and
-/// the number of its octets; or only 0 octets if none waits. Returns 0 or `SEDGE_NODE_ROOM`.
+/// the number of its octets; or writes only 0 to `count` if none waits. Returns 0 or `SEDGE_NODE_ROOM`.
 #[unsafe(no_mangle)]
 #[must_use]
 pub extern "C" fn sedge_spacecraft_take(

@@ -139,13 +139,14 @@ static inline const char *sedge_link_fault_text(uint8_t number) {
     switch (number) {
     case 1: return "1 NotOpen: the sender is in its state Initial (S6)";
     case 2: return "2 ClosedMap: the MAP is not open";
-    case 3: return "3 NotCommand: the octets are not command packets, or not as many as one call takes";
+    case 3: return "3 NotCommand: the octets are not command packets, or are more of them than one call takes";
     case 4: return "4 TooLong: a packet has more octets than it may have";
-    case 5: return "5 QueueFull: as many units wait as may wait";
+    case 5: return "5 QueueFull: the queue has too few free slots for the units";
     case 6: return "6 Memory: out of memory";
     case 10: return "10 NotKnown: nothing is known of how far the session has come";
     case 252: return "252 Room: the output is too short; nothing was taken";
-    case 253: return "253 Absent: there is no record at this index, or a CLCW states nothing about the segments";
+    case 253: return "253 Absent: nothing is at this index, there is no CLCW in the octets, or a CLCW states nothing "
+                     "about the segments";
     case 254: return "254 OutOfRange: a parameter is out of range";
     case 255: return "255 None: the handle holds no node, or there is no such directive or event";
     default: return "?";

@@ -4,12 +4,13 @@
  *
  * A handle holds a node or a link, or none. Initialise a handle to {0}, which holds none, and close it before you
  * discard it. In between, only the calls here may write it, and the program must not copy it; nothing can check that.
- * Each call does what its crate's contract states, for every value of its arguments: ground_step, spacecraft_step and
- * world_step define the next state and the answer. In the proved archive this is proved, in portable C it is tested.
+ * Each call does what its contract in crates/ states, for every value of its arguments: ground_step, spacecraft_step
+ * and world_step define the next state and the answer. In the proved archive this is proved; in portable C it is
+ * tested.
  *
  * A caller must also ensure the following. No pointer is null, and each is aligned for its type. The octets at a
- * pointer, as many as the number after it states, may be read; if the pointer is not to const, they may also be
- * written. What a call writes overlaps nothing else that its arguments point to. No two threads use a handle at once.
+ * pointer, as many as the count after it states, may be read; if the pointer is not to const, they may also be written.
+ * What a call writes overlaps nothing else that its arguments point to. No two threads use a handle at once.
  *
  * What calls return: a uint8_t is SEDGE_NODE_OK, or a number of the one enumeration that the call's comment names, or
  * SEDGE_NODE_NONE, which every call returns for a handle that holds none. Two calls return something other than a
@@ -20,10 +21,10 @@
  * Memory comes from the functions rattle_alloc, rattle_realloc and rattle_dealloc, which malloc.c and static.c contain
  * (docs/C.md); sedgechisel_memory.h describes what each does.
  *
- * A call writes what it takes out to the beginning of the caller's buffer, out, which has room octets. If it does not
- * fit, the call returns SEDGE_NODE_ROOM and takes nothing out. A matching call writes how many octets are next, and
- * changes nothing. SEDGE_PACKET_LONGEST octets are enough for every packet, SEDGE_TC_LONGEST for every uplink frame,
- * SEDGE_TM_LONGEST for every downlink frame. */
+ * A call that takes a frame or a packet writes it to the beginning of the caller's buffer, out, which has room octets.
+ * If it does not fit, the call returns SEDGE_NODE_ROOM and takes nothing. A matching call, such as sedge_ground_next,
+ * writes how many octets are next, and changes nothing. SEDGE_PACKET_LONGEST octets are enough for every packet,
+ * SEDGE_TC_LONGEST for every uplink frame, SEDGE_TM_LONGEST for every downlink frame. */
 #ifndef SEDGECHISEL_NODES_H
 #define SEDGECHISEL_NODES_H
 
@@ -33,23 +34,25 @@
 extern "C" {
 #endif
 
+/* Why a node refuses a call, and the numbers that all calls here share. */
 enum sedge_node_status {
     SEDGE_NODE_OK = 0,
     SEDGE_NODE_NOT_OPEN = 1,       /* the sender is in its state Initial (S6) */
     SEDGE_NODE_CLOSED_MAP = 2,     /* the MAP is not open */
-    SEDGE_NODE_NOT_COMMAND = 3,    /* the octets are not command packets, or not as many as one call takes */
+    SEDGE_NODE_NOT_COMMAND = 3,    /* the octets are not command packets, or are more of them than one call takes */
     SEDGE_NODE_TOO_LONG = 4,       /* a packet has more octets than it may have */
-    SEDGE_NODE_QUEUE_FULL = 5,     /* as many units wait as may wait */
+    SEDGE_NODE_QUEUE_FULL = 5,     /* the queue has too few free slots for the units */
     SEDGE_NODE_MEMORY = 6,         /* out of memory */
     SEDGE_NODE_NOT_KNOWN = 10,     /* nothing is known of how far the session has come */
     SEDGE_NODE_ROOM = 252,         /* the output is too short; nothing was taken */
-    SEDGE_NODE_ABSENT = 253,       /* there is no record at this index, or a CLCW states nothing about the segments */
+    SEDGE_NODE_ABSENT = 253,       /* nothing is at this index, there is no CLCW in the octets, or a CLCW states nothing
+                                    * about the segments */
     SEDGE_NODE_OUT_OF_RANGE = 254, /* a parameter is out of range */
     SEDGE_NODE_NONE = 255          /* the handle holds no node, or there is no such directive or event */
 };
 
-/* The managed parameters (docs/PROFILE.md). Only the ground uses the part, since a spacecraft takes segments of up to
- * 1,016 octets. */
+/* The managed parameters (docs/PROFILE.md). Only the ground uses part, since a spacecraft takes segments of up to 1,016
+ * octets. */
 struct sedge_config {
     uint32_t scid;         /* the spacecraft identifier, 0 to 1,023; default 1 */
     uint32_t vcid;         /* the virtual channel of telecommand frames, 0 to 63; default 2 */
@@ -93,11 +96,12 @@ enum sedge_parameter {
     SEDGE_PARAMETER_BLOCKING = 15
 };
 
-/* Writes the default of each parameter. A program begins with these, and sets those that differ in its mission. */
+/* Writes the default of each parameter. A program begins with the defaults, and sets the parameters that differ in its
+ * mission. */
 void sedge_config_default(struct sedge_config *config);
 
-/* Sets a parameter by its number, of sedge_parameter. Returns false, and sets nothing, if no parameter has this number,
- * or if its field cannot hold the value. */
+/* Sets a parameter by its number, of sedge_parameter. Returns true; or returns false and sets nothing if no parameter
+ * has this number, or if its field cannot hold the value. sedge_config_fault checks the ranges. */
 static inline bool sedge_config_set(struct sedge_config *config, uint8_t number, uint64_t value) {
     uint32_t *field = NULL;
     uint64_t *wide = NULL;
@@ -137,25 +141,26 @@ struct sedge_text sedge_link_fault_name(uint8_t number);
 
 /* ---- The ground. ---- */
 
+/* A handle that holds a ground, or none. */
 struct sedge_ground {
     void *node;
 };
 
-/* Opens a ground instead of one that the handle holds. The old ground is released once the new one is built: a refusal
- * leaves it, and until then both have memory. If there is memory only for one, close the handle first. Returns 0,
- * SEDGE_NODE_OUT_OF_RANGE or SEDGE_NODE_MEMORY. */
+/* Opens a ground, which replaces any ground that the handle holds. The old ground is released once the new one is
+ * built: it stays if the call is refused, and until then both occupy memory. If there is memory only for one, close the
+ * handle first. Returns 0, SEDGE_NODE_OUT_OF_RANGE or SEDGE_NODE_MEMORY. */
 SEDGE_CHECK uint8_t sedge_ground_open(struct sedge_ground *ground, const struct sedge_config *config);
 
 /* Closes the ground, if there is one; the handle then holds none. */
 void sedge_ground_close(struct sedge_ground *ground);
 
 /* Gives the ground's sender a directive, of sedge_directive (sedgechisel.h), with its value; a directive without a
- * value ignores it. Returns 0; or SEDGE_COP_WRONG_STATE; or for a value out of range SEDGE_COP_WINDOW,
- * SEDGE_COP_LIMIT or SEDGE_COP_TIMER; or SEDGE_NODE_NONE, also for a number that is not a directive, and for a V(R)
- * or V(S) above 255. */
+ * value ignores it. Returns 0, or SEDGE_COP_WRONG_STATE, or for a value out of range SEDGE_COP_WINDOW, SEDGE_COP_LIMIT
+ * or SEDGE_COP_TIMER. Returns SEDGE_NODE_NONE also for a number that is not a directive, and for a V(R) or V(S) above
+ * 255. */
 SEDGE_CHECK uint8_t sedge_ground_directive(struct sedge_ground *ground, uint8_t directive, uint16_t value);
 
-/* Each directive by its name. Up to 0.2 these were calls of the library; they are sedge_ground_directive now. */
+/* Each directive by its name. Up to 0.2 these were calls of the library; now they call sedge_ground_directive. */
 static inline SEDGE_CHECK uint8_t sedge_ground_init_without_check(struct sedge_ground *ground) {
     return sedge_ground_directive(ground, SEDGE_INIT_WITHOUT_CHECK, 0);
 }
@@ -184,10 +189,9 @@ static inline SEDGE_CHECK uint8_t sedge_ground_set_timer(struct sedge_ground *gr
     return sedge_ground_directive(ground, SEDGE_SET_TIMER, timer);
 }
 
-/* Submits one packet on a MAP under sequence control, or several if blocking is on. Returns 0, or the first of 1 to
- * 5 of sedge_node_status that applies, or SEDGE_NODE_MEMORY. sedge_map_count writes the number of their segments.
- * The promise that sedge_ground_resume counts a submission correctly covers one packet, and packets that share one
- * segment. */
+/* Submits one packet on a MAP under sequence control, or several if blocking is on. sedge_map_count writes the number
+ * of their segments. The promise that sedge_ground_resume counts a submission correctly covers one packet, and packets
+ * that share one segment. Returns 0, or the first of 1 to 5 of sedge_node_status that applies, or SEDGE_NODE_MEMORY. */
 SEDGE_CHECK uint8_t sedge_ground_submit(struct sedge_ground *ground, uint8_t map, const uint8_t *octets, size_t count);
 
 /* Submits one packet on a MAP by bypass (Type-BD). Returns 0, or the first of 2 to 5 of sedge_node_status that applies,
@@ -201,19 +205,20 @@ uint8_t sedge_ground_next(struct sedge_ground *ground, size_t *count);
  * octets if nothing is to be sent. Returns 0 or SEDGE_NODE_ROOM. */
 SEDGE_CHECK uint8_t sedge_ground_pull(struct sedge_ground *ground, uint8_t *out, size_t room, size_t *count);
 
-/* Writes the next frame for the link as sedge_ground_pull does; the ground does not change. Call sedge_ground_advance,
- * and the frame counts as sent, once a radio that may refuse it has taken it. Returns 0 or SEDGE_NODE_ROOM. */
+/* Writes the next frame for the link as sedge_ground_pull does; the ground does not change. If the radio may refuse a
+ * frame, call sedge_ground_advance once it has taken this one: the frame then counts as sent. Returns 0 or
+ * SEDGE_NODE_ROOM. */
 SEDGE_CHECK uint8_t sedge_ground_peek(struct sedge_ground *ground, uint8_t *out, size_t room, size_t *count);
 
 /* Counts the next frame for the link as sent, as sedge_ground_pull does. If nothing is to be sent, nothing changes.
  * Returns 0. */
 uint8_t sedge_ground_advance(struct sedge_ground *ground);
 
-/* What the octets are that the ground received. */
+/* The kinds of octets that the ground receives. */
 enum sedge_heard_kind {
     SEDGE_HEARD_INVALID = 1, /* not a valid frame */
     SEDGE_HEARD_FOREIGN = 2, /* a frame of another spacecraft or virtual channel */
-    SEDGE_HEARD_FRAME = 3,   /* a frame of this one */
+    SEDGE_HEARD_FRAME = 3,   /* a frame of this spacecraft and virtual channel */
     SEDGE_HEARD_CLCW = 4     /* a CLCW by itself */
 };
 
@@ -238,21 +243,21 @@ struct sedge_heard {
     uint8_t alert;      /* USED: of sedge_alert, SEDGE_NO_ALERT for none */
 };
 
-/* Takes octets that came from the spacecraft, and writes what they are. Returns 0, or SEDGE_NODE_MEMORY, only if they
- * finish a packet. */
+/* Takes octets that came from the spacecraft, and writes what they are. Returns 0, or SEDGE_NODE_MEMORY, which is
+ * possible only if they complete a packet. */
 SEDGE_CHECK uint8_t sedge_ground_telemetry(struct sedge_ground *ground, const uint8_t *octets, size_t count,
                                            struct sedge_heard *heard);
 
 /* Takes a CLCW that came by itself, as a front end forwards it (232.0-B-4, 4.2), and writes what becomes of it, as
- * sedge_ground_telemetry does for the CLCW of a telemetry frame. Telemetry is not touched. The front end may repeat the
- * last CLCW before the next one, which changes nothing; it may not forward an older one as if it were new. Returns 0,
- * or SEDGE_NODE_ABSENT if the octets are not four. */
+ * sedge_ground_telemetry does for a frame's CLCW. Telemetry is not touched. Until the next CLCW, the front end may
+ * repeat the newest one since the initiation (docs/PROFILE.md, "An idle start"); it must not forward an older one as if
+ * it were new. Returns 0, or SEDGE_NODE_ABSENT if the octets are not four. */
 SEDGE_CHECK uint8_t sedge_ground_clcw(struct sedge_ground *ground, const uint8_t *octets, size_t count,
                                       struct sedge_heard *heard);
 
 /* Restarts the extraction of packets from telemetry, for example after a restart of the spacecraft, whose frame counts
- * then continue elsewhere. An unfinished packet is dropped, and the next frame is the first (132.0-B-3, 4.3.2). Packets
- * that wait to be taken stay. Returns 0. */
+ * then continue from other values. An unfinished packet is dropped, and the next frame counts as the first (132.0-B-3,
+ * 4.3.2). Packets that wait to be taken stay. Returns 0. */
 uint8_t sedge_ground_forget_telemetry(struct sedge_ground *ground);
 
 /* Writes the CLCW that a telemetry frame of any spacecraft and virtual channel carries (232.0-B-4, 4.2); the ground
@@ -271,18 +276,20 @@ SEDGE_CHECK uint8_t sedge_ground_take_telemetry(struct sedge_ground *ground, uin
 /* Counts a tick of the clock. Returns the alert, of sedge_alert, SEDGE_NO_ALERT for none. */
 SEDGE_CHECK uint8_t sedge_ground_tick(struct sedge_ground *ground);
 
+/* What sedge_ground_read writes. */
 struct sedge_ground_reading {
-    uint64_t submitted;          /* the number of submissions of the session; they count from 0. This number and the
-                                  * two below are modulo 2^64, also after an alert, and 0 once V(S) is set */
-    uint64_t sent_whole;         /* how many of the session's submissions, from the first on, were sent whole, each
-                                  * to its last segment */
+    uint64_t submitted;          /* the number of submissions of the session, which are numbered from 0. This number
+                                  * and the two below are modulo 2^64, stay after an alert, and are 0 once V(S) is
+                                  * set */
+    uint64_t sent_whole;         /* how many of the session's submissions, from the first on, were sent whole, up to
+                                  * their last segment */
     uint64_t acknowledged_whole; /* how many of the session's submissions, from the first on, are acknowledged whole,
-                                  * so that they are on board */
+                                  * and are therefore on board */
     size_t outstanding;          /* the number of segments that were submitted and are not acknowledged */
     size_t unsent;               /* how many outstanding segments wait to be sent for the first time */
     size_t due;                  /* how many outstanding segments are to be retransmitted */
     size_t bypassed;             /* how many bypass packets wait to be sent */
-    size_t frame_length;         /* of telemetry, in octets */
+    size_t frame_length;         /* the length of a telemetry frame in octets */
     uint16_t ticks;              /* the ticks that are left while the timer runs, otherwise 0 */
     uint8_t state;               /* the sender's state, of sedge_fop_state (232.1-B-2, 5.1) */
     uint8_t vs;                  /* V(S), the number of the next segment that is sent for the first time */
@@ -290,33 +297,33 @@ struct sedge_ground_reading {
     uint8_t count;               /* the transmission count, at least 1 */
 };
 
-/* Reads the ground: how far its submissions have come, the sender's state, V(S), NN(R), transmission count and
- * timer, what is outstanding and what waits, and how many octets a telemetry frame has. The ground does not change.
- * Returns 0. */
+/* Reads the ground: how far its submissions have come; the sender's state, V(S), NN(R), transmission count and timer;
+ * what is outstanding and what waits; and the length of a telemetry frame. The ground does not change. Returns 0. */
 uint8_t sedge_ground_read(struct sedge_ground *ground, struct sedge_ground_reading *read);
 
-/* Writes how many of the segments that were sent and not acknowledged were accepted on board when a CLCW of this value
- * was made. They are the oldest ones (232.1-B-2, 5.1). The call does so after an alert too, until V(S) is set or an
- * initiation begins. It uses only the numbers: after an alert that shows a broken condition nothing is known of these
- * segments, whatever the call writes. If V(S) is NN(R), there are no such segments, and the call writes 0 for every
- * value. Returns 0, or SEDGE_NODE_ABSENT if there are such segments and the value does not lie from NN(R) to V(S), so
- * that nothing is known of them. */
+/* Writes how many of the segments that were sent and not acknowledged were accepted on board when a CLCW with this
+ * value was made. They are the oldest ones (232.1-B-2, 5.1). The call does so after an alert too, until V(S) is set or
+ * an initiation begins. It uses only the numbers: after an alert that shows a broken condition, nothing is known of
+ * these segments, whatever the call writes. If V(S) is NN(R), there are no such segments, and the call writes 0 for
+ * every value. Returns 0, or SEDGE_NODE_ABSENT if there are such segments and the value does not lie from NN(R) to
+ * V(S): nothing is then known of them. */
 SEDGE_CHECK uint8_t sedge_ground_accepted_beyond(struct sedge_ground *ground, uint8_t value, uint8_t *accepted);
 
-/* Writes how many of the session's submissions, from the first on, are known to be on board whole from a CLCW of this
- * value. They are those that are acknowledged, and those whose segments were all accepted according to the CLCW
- * (232.1-B-2, 5.1). The call does so after an alert too. Returns 0, or SEDGE_NODE_ABSENT where nothing is known: no
- * session has begun, V(S) was set since, an alert has shown a broken condition since, or V(S) is not NN(R) and the
- * value does not lie from NN(R) to V(S). */
+/* Writes how many of the session's submissions, from the first on, a CLCW with this value shows to be on board whole.
+ * They are those that are acknowledged, and those whose segments were all accepted according to the CLCW (232.1-B-2,
+ * 5.1). The call does so after an alert too. Returns 0, or SEDGE_NODE_ABSENT if nothing is known: no session has begun,
+ * V(S) was set since, an alert has shown a broken condition since, or V(S) is not NN(R) and the value does not lie from
+ * NN(R) to V(S). */
 SEDGE_CHECK uint8_t sedge_ground_known_on_board(struct sedge_ground *ground, uint8_t value, uint64_t *whole);
 
-/* Begins the next session after an alert, from where the last one has got to. Sets V(S) to the value of a CLCW that was
- * made when nothing was in transit on the uplink, and begins by Unlock (232.1-B-2, 5.2.4). Writes how many of the ended
- * session's submissions, from the first on, are on board whole, counted within that session; resubmit those after them.
- * A submission of several packets that has more octets than a segment takes (part) is whole only with its last packet.
- * Some of its packets may therefore be on board already, and be delivered again. Returns 0, or SEDGE_NODE_NOT_KNOWN
- * (10), and nothing has changed: the sender is not in S6, no session has begun, V(S) was set since, an alert has shown
- * a broken condition since, or V(S) is not NN(R) and the value does not lie from NN(R) to V(S). */
+/* Begins the next session after an alert, from the point that the ended session reached. Sets V(S) to the value of a
+ * CLCW that was made when nothing was in transit on the uplink, and begins by Unlock (232.1-B-2, 5.2.4). If V(S) is
+ * NN(R), it accepts any value: compare the value with V(S) first. Writes how many of the ended session's submissions,
+ * from the first on, are on board whole; resubmit the rest. A submission of several packets with more octets than a
+ * segment takes (part) is whole only with its last packet: some of its packets may be on board already, and be
+ * delivered again. Returns 0. Changes nothing and returns SEDGE_NODE_NOT_KNOWN (10) if the sender is not in S6, no
+ * session has begun, V(S) was set since, an alert has shown a broken condition since, or V(S) is not NN(R) and the
+ * value does not lie from NN(R) to V(S). */
 SEDGE_CHECK uint8_t sedge_ground_resume(struct sedge_ground *ground, uint8_t value, uint64_t *whole);
 
 /* The record of a ground: V(S) and NN(R) (232.1-B-2, 5.1), and the counts of the submissions that were sent whole. The
@@ -333,40 +340,41 @@ struct sedge_kept_ground {
     uint8_t zeros[5];      /* zeros, which are not read */
 };
 
-/* Writes the ground's record, which has a fixed size; the ground does not change. A program stores the record after
- * each call, and after a pull before the frame goes out. If the ground is lost, sedge_ground_open_kept opens another
- * one from the record. The record contains nothing of submissions that were not sent whole, of bypass packets, of
+/* Writes the ground's record, which has a fixed size; the ground does not change. Store the record after each call, and
+ * after sedge_ground_pull before the frame is sent. If the ground is lost, sedge_ground_open_kept opens another one
+ * from the record. The record contains nothing of submissions that were not sent whole, of bypass packets, of
  * telemetry, or of what directives set. Returns 0. */
 uint8_t sedge_ground_kept(struct sedge_ground *ground, struct sedge_kept_ground *kept);
 
 /* Opens a ground that continues, in S6, from the record that sedge_ground_kept wrote of a lost one: with its V(S), its
  * NN(R) and its counts of submissions. The new ground is the lost one after Terminate, without what waited, and with
- * the window, the limit and the timer of the configuration. So sedge_ground_resume begins the next session, as after an
- * alert. A ground that the handle holds is treated as by sedge_ground_open. Returns 0, SEDGE_NODE_OUT_OF_RANGE (also
+ * the window, the limit and the timer of the configuration. So sedge_ground_resume can begin the next session, as after
+ * an alert. A ground that the handle holds is treated as by sedge_ground_open. Returns 0, SEDGE_NODE_OUT_OF_RANGE (also
  * for a record that no ground of this configuration writes) or SEDGE_NODE_MEMORY. */
 SEDGE_CHECK uint8_t sedge_ground_open_kept(struct sedge_ground *ground, const struct sedge_config *config,
                                            const struct sedge_kept_ground *kept);
 
 /* ---- The spacecraft. ---- */
 
+/* A handle that holds a spacecraft, or none. */
 struct sedge_spacecraft {
     void *node;
 };
 
-/* Opens a spacecraft instead of one that the handle holds, as sedge_ground_open does. Returns 0,
+/* Opens a spacecraft, which replaces any that the handle holds, as sedge_ground_open does. Returns 0,
  * SEDGE_NODE_OUT_OF_RANGE or SEDGE_NODE_MEMORY. */
 SEDGE_CHECK uint8_t sedge_spacecraft_open(struct sedge_spacecraft *spacecraft, const struct sedge_config *config);
 
 /* Closes the spacecraft, if there is one; the handle then holds none. */
 void sedge_spacecraft_close(struct sedge_spacecraft *spacecraft);
 
-/* What the octets are that the spacecraft received. */
+/* The kinds of octets that the spacecraft receives. */
 enum sedge_received_kind {
     SEDGE_RECEIVED_INVALID = 1, /* not a valid frame */
     SEDGE_RECEIVED_FOREIGN = 2, /* a frame of another spacecraft or virtual channel */
-    SEDGE_RECEIVED_AD = 3,      /* a Type-AD frame of this one */
-    SEDGE_RECEIVED_BD = 4,      /* a Type-BD frame */
-    SEDGE_RECEIVED_BC = 5       /* a Type-BC frame */
+    SEDGE_RECEIVED_AD = 3,      /* a Type-AD frame of this spacecraft and virtual channel */
+    SEDGE_RECEIVED_BD = 4,      /* a Type-BD frame of this spacecraft and virtual channel */
+    SEDGE_RECEIVED_BC = 5       /* a Type-BC frame of this spacecraft and virtual channel */
 };
 
 /* What the spacecraft makes of octets that it received: their kind, and the fields for that kind. The note of a field
@@ -383,17 +391,17 @@ struct sedge_received {
     uint8_t vr;      /* BC: the number of Set V(R) */
 };
 
-/* Takes octets that came from the ground, and writes what they are. Returns 0, or SEDGE_NODE_MEMORY, only if a frame's
- * data are passed on. */
+/* Takes octets that came from the ground, and writes what they are. Returns 0, or SEDGE_NODE_MEMORY, which is possible
+ * only if a frame's data are passed on. */
 SEDGE_CHECK uint8_t sedge_spacecraft_receive(struct sedge_spacecraft *spacecraft, const uint8_t *octets, size_t count,
                                              struct sedge_received *received);
 
-/* Writes the MAP of the oldest packet of sequence-controlled frames, and the number of its octets, 7 to 65,542; or only
- * 0 octets if none waits. Returns 0. */
+/* Writes the MAP of the oldest packet of sequence-controlled frames, and the number of its octets, 7 to 65,542; or
+ * writes only 0 to count if none waits. Returns 0. */
 uint8_t sedge_spacecraft_next(struct sedge_spacecraft *spacecraft, uint8_t *map, size_t *count);
 
 /* Takes the oldest packet of sequence-controlled frames (232.0-B-4, 4.4). Writes its MAP, the packet, and the number of
- * its octets; or only 0 octets if none waits. Returns 0 or SEDGE_NODE_ROOM. */
+ * its octets; or writes only 0 to count if none waits. Returns 0 or SEDGE_NODE_ROOM. */
 SEDGE_CHECK uint8_t sedge_spacecraft_take(struct sedge_spacecraft *spacecraft, uint8_t *map, uint8_t *out,
                                           size_t room, size_t *count);
 
@@ -414,11 +422,12 @@ SEDGE_CHECK uint8_t sedge_spacecraft_telemetry(struct sedge_spacecraft *spacecra
 SEDGE_CHECK uint8_t sedge_spacecraft_telemetry_frame(struct sedge_spacecraft *spacecraft, uint8_t *out, size_t room,
                                                      size_t *count);
 
+/* What sedge_spacecraft_read writes. */
 struct sedge_spacecraft_reading {
-    size_t frame_length; /* of telemetry, in octets */
+    size_t frame_length; /* the length of a telemetry frame in octets */
     size_t ready;        /* how many packets of sequence-controlled frames wait to be taken */
     size_t bypassed;     /* how many bypass packets wait to be taken */
-    uint8_t status;      /* of the CLCW that the next frame carries, as in struct sedge_clcw */
+    uint8_t status;      /* the fields of the CLCW that the next frame carries, as in struct sedge_clcw */
     uint8_t vcid;
     uint8_t flags;
     uint8_t farm_b;
@@ -428,25 +437,26 @@ struct sedge_spacecraft_reading {
     uint8_t vc_count;    /* the next frame's count on the virtual channel */
 };
 
-/* Reads the spacecraft: how many octets a telemetry frame has, how many packets wait, the CLCW that the next frame
- * carries, its counts, and the receiver's state. The spacecraft does not change. Returns 0. */
+/* Reads the spacecraft: the length of a telemetry frame, how many packets wait, the CLCW that the next frame carries,
+ * that frame's counts, and the receiver's state. The spacecraft does not change. Returns 0. */
 uint8_t sedge_spacecraft_read(struct sedge_spacecraft *spacecraft, struct sedge_spacecraft_reading *read);
 
-/* Opens a spacecraft that continues with what sedge_spacecraft_read wrote before a deliberate restart: V(R), which is
- * value there, farm_b, and the telemetry frame counts. The other fields are not read. The receiver is Open with no flag
- * set, and no packet is on board. A spacecraft that the handle holds is treated as by sedge_spacecraft_open. Returns 0,
- * SEDGE_NODE_OUT_OF_RANGE (also if farm_b is not below 4) or SEDGE_NODE_MEMORY. */
+/* Opens a spacecraft that continues with what sedge_spacecraft_read wrote before a deliberate restart: V(R) (in value),
+ * farm_b, and the telemetry frame counts. The other fields are not read. The receiver is Open with no flag set, and no
+ * packet is on board. Replaces a spacecraft as sedge_spacecraft_open does. Returns 0, SEDGE_NODE_OUT_OF_RANGE (also if
+ * farm_b is above 3) or SEDGE_NODE_MEMORY. */
 SEDGE_CHECK uint8_t sedge_spacecraft_open_kept(struct sedge_spacecraft *spacecraft, const struct sedge_config *config,
                                                const struct sedge_spacecraft_reading *kept);
 
 /* ---- A simulated link between two nodes, for tests: it keeps the order of the frames in each direction, and loses or
  * damages frames only in ways that the receiver detects. ---- */
 
+/* A handle that holds a simulated link, or none. */
 struct sedge_sim {
     void *link;
 };
 
-/* Opens a link with two new nodes instead of one that the handle holds, as sedge_ground_open does. Returns 0,
+/* Opens a link with two new nodes, which replaces any that the handle holds, as sedge_ground_open does. Returns 0,
  * SEDGE_NODE_OUT_OF_RANGE or SEDGE_NODE_MEMORY. */
 SEDGE_CHECK uint8_t sedge_sim_open(struct sedge_sim *sim, const struct sedge_config *config);
 
@@ -460,10 +470,10 @@ enum sedge_sim_fault {
     SEDGE_SIM_NOT_DETECTABLE = 8      /* the receiver's decoder would accept the octets of the damaged frame */
 };
 
-/* The name of a sedge_sim_fault; "?" for another number. */
+/* Returns the name of a sedge_sim_fault; "?" for another number. */
 struct sedge_text sedge_sim_fault_name(uint8_t number);
 
-/* What the link answers to an event. */
+/* What the link answers to an event. A note ends with the fields of sedge_reply that are set, after the colon. */
 enum sedge_reply_kind {
     SEDGE_REPLY_DONE = 0,
     SEDGE_REPLY_NOTHING = 1,    /* there was nothing to send or to take */
@@ -479,7 +489,7 @@ enum sedge_reply_kind {
     SEDGE_REPLY_RESUMED = 11    /* the ground has resumed: whole */
 };
 
-/* The part of a node that refused a call, and the enumeration of its number. */
+/* The part of a node that refused a call. The note names the enumeration of the refusal's number. */
 enum sedge_refused_by {
     SEDGE_BY_NODE = 1,     /* of sedge_node_status */
     SEDGE_BY_SENDER = 2,   /* of sedge_cop_fault */
@@ -495,12 +505,13 @@ struct sedge_reply {
     struct sedge_clcw report;
     uint8_t kind;             /* of sedge_reply_kind */
     uint8_t by;               /* of sedge_refused_by */
-    uint8_t fault;            /* of the enumeration that by selects */
+    uint8_t fault;            /* the number of the refusal, of the enumeration that by selects */
     uint8_t alert;            /* of sedge_alert */
-    uint8_t map;              /* of the packet */
+    uint8_t map;              /* the MAP of the packet */
 };
 
-/* What may happen: on the ground, to a frame in transit, or on board, as the notes state. */
+/* What may happen: on the ground, to a frame in transit, or on board, as the notes state. A note ends with the fields
+ * of sedge_event that are used, after the colon. */
 enum sedge_event_kind {
     SEDGE_EVENT_SUBMIT = 1,       /* packets are submitted: map, octets */
     SEDGE_EVENT_BYPASS = 2,       /* a packet is submitted by bypass: map, octets */
@@ -508,11 +519,11 @@ enum sedge_event_kind {
     SEDGE_EVENT_SEND = 4,         /* the ground sends a frame */
     SEDGE_EVENT_UP_DELIVER = 5,   /* the first frame in transit on the uplink arrives */
     SEDGE_EVENT_UP_LOSE = 6,      /* it is lost */
-    SEDGE_EVENT_UP_DAMAGE = 7,    /* these arrive in its place, which are no frame: octets */
+    SEDGE_EVENT_UP_DAMAGE = 7,    /* these octets arrive instead, and do not form a valid frame: octets */
     SEDGE_EVENT_REPORT = 8,       /* the spacecraft sends a frame, which reports */
     SEDGE_EVENT_DOWN_DELIVER = 9, /* the first frame in transit on the downlink arrives */
     SEDGE_EVENT_DOWN_LOSE = 10,   /* it is lost */
-    SEDGE_EVENT_DOWN_DAMAGE = 11, /* these arrive in its place, which are no frame: octets */
+    SEDGE_EVENT_DOWN_DAMAGE = 11, /* these octets arrive instead, and do not form a valid frame: octets */
     SEDGE_EVENT_TICK = 12,        /* a tick of the ground's clock passes */
     SEDGE_EVENT_TAKE = 13,        /* a packet of sequence-controlled frames is taken on board */
     SEDGE_EVENT_TAKE_BYPASS = 14, /* a bypass packet is taken on board */
@@ -523,15 +534,15 @@ enum sedge_event_kind {
 };
 
 /* An event: its kind, and the fields of that kind; the rest is ignored. But octets must never be null: for a kind
- * without octets it is the address of any octet, and count is 0. */
+ * without octets, set it to the address of any octet, and count to 0. */
 struct sedge_event {
     uint8_t kind;          /* of sedge_event_kind */
     uint8_t map;           /* the MAP */
     uint8_t directive;     /* of sedge_directive */
-    uint16_t value;        /* the directive's, as for sedge_ground_directive; or that of the CLCW with which the
-                            * ground resumes, 0 to 255 */
+    uint16_t value;        /* the directive's value, as for sedge_ground_directive; or the value of the CLCW with
+                            * which the ground resumes, 0 to 255 */
     const uint8_t *octets; /* where the octets begin */
-    size_t count;          /* the number of these */
+    size_t count;          /* the number of octets */
 };
 
 /* The layout that the proved archives expect; their addresses have 64 bits. */
@@ -544,14 +555,15 @@ typedef char sedge_event_is_laid_out[sizeof(uint8_t *) < 8 || (offsetof(struct s
                                          ? 1
                                          : -1];
 
-/* Lets an event happen. Returns 0 and writes the reply; or a number of sedge_sim_fault, and nothing happens; or
- * SEDGE_NODE_NONE, also for a number that is not a kind, for a directive and a value if sedge_ground_directive returns
- * it for them, and for a value above 255 with which the ground is to resume. No directive, resumption, loss, damage,
- * CLCW by itself, tick or take returns SEDGE_SIM_MEMORY. A node's refusal is a reply. The octets of a frame that was
- * sent, and of a packet that was taken, can be read until the next event (sedge_sim_octets). */
+/* Lets an event happen. Returns 0 and writes the reply; a node's refusal is a reply too. Returns a number of
+ * sedge_sim_fault if nothing happens. Returns SEDGE_NODE_NONE also for a number that is not a kind, for a directive and
+ * a value for which sedge_ground_directive returns it, and for a resumption with a value above 255. No directive,
+ * resumption, loss, damage, CLCW by itself, tick or take returns SEDGE_SIM_MEMORY. The octets of a frame that was sent,
+ * and of a packet that was taken, can be read until the next event (sedge_sim_octets). */
 SEDGE_CHECK uint8_t sedge_sim_step(struct sedge_sim *sim, const struct sedge_event *event, struct sedge_reply *reply);
 
-/* An event with octets, one without, one for a directive, and one for a resumption of the ground. */
+/* Calls of sedge_sim_step: for an event with octets, for one without, for a directive, and for a resumption of the
+ * ground. */
 static inline SEDGE_CHECK uint8_t sedge_sim_octets_event(struct sedge_sim *sim, uint8_t kind, uint8_t map,
                                                          const uint8_t *octets, size_t count,
                                                          struct sedge_reply *reply) {
@@ -572,7 +584,7 @@ static inline SEDGE_CHECK uint8_t sedge_sim_resume(struct sedge_sim *sim, uint8_
     return sedge_sim_step(sim, &event, reply);
 }
 
-/* Each event by its name. Up to 0.2 these were calls of the library; they are sedge_sim_step now. */
+/* Each event by its name. Up to 0.2 these were calls of the library; now they call sedge_sim_step. */
 static inline SEDGE_CHECK uint8_t sedge_sim_init_without_check(struct sedge_sim *sim, struct sedge_reply *reply) {
     return sedge_sim_directive(sim, SEDGE_INIT_WITHOUT_CHECK, 0, reply);
 }
@@ -654,7 +666,7 @@ static inline SEDGE_CHECK uint8_t sedge_sim_take_bypass(struct sedge_sim *sim, s
 }
 
 /* Writes the octets of the last event's frame or packet, and their number, which is the reply's count; or 0 octets if
- * the reply had none. The octets stay. Returns 0 or SEDGE_NODE_ROOM. */
+ * the reply had none. They can be read again. Returns 0 or SEDGE_NODE_ROOM. */
 SEDGE_CHECK uint8_t sedge_sim_octets(struct sedge_sim *sim, uint8_t *out, size_t room, size_t *count);
 
 /* How a session began. */
@@ -669,7 +681,7 @@ enum sedge_begun {
 /* What is known of the link and of its session. Each initiation that the ground accepts begins a session. */
 struct sedge_sim_reading {
     size_t outstanding;  /* the number of segments that were submitted and are not acknowledged */
-    size_t acknowledged; /* how many of the frames sent, from the first on, the ground holds as acknowledged */
+    size_t acknowledged; /* how many of the frames sent, from the first on, the ground regards as acknowledged */
     uint8_t state;       /* the state of the ground's sender, of sedge_fop_state */
     uint8_t begun;       /* of sedge_begun */
     uint8_t vr;          /* the number of Set V(R) */
@@ -699,7 +711,7 @@ SEDGE_CHECK uint8_t sedge_sim_submission_length(struct sedge_sim *sim, size_t k,
 SEDGE_CHECK uint8_t sedge_sim_submission(struct sedge_sim *sim, size_t k, uint8_t *map, uint8_t *out, size_t room,
                                          size_t *count);
 
-/* The records of the session, each a list of octets. */
+/* The records of the session. Each is a list of entries, which are octets. */
 enum sedge_record {
     SEDGE_SUBMITTED = 1, /* the packets submitted on the MAP */
     SEDGE_DELIVERED = 2, /* the packets that are ready on board on the MAP, taken or not */
@@ -708,10 +720,10 @@ enum sedge_record {
 };
 
 /* Writes how many entries a record has, of sedge_record; the MAP matters only for SEDGE_SUBMITTED and SEDGE_DELIVERED.
- * For any other number there are none. Returns 0. */
+ * For any other number, writes 0. Returns 0. */
 uint8_t sedge_sim_count(struct sedge_sim *sim, uint8_t record, uint8_t map, size_t *entries);
 
-/* Writes how many octets entry k has, counted from 0. Returns 0, or SEDGE_NODE_ABSENT if there are not so many
+/* Writes how many octets entry k has, counted from 0. Returns 0, or SEDGE_NODE_ABSENT if there are not that many
  * entries. */
 SEDGE_CHECK uint8_t sedge_sim_entry_length(struct sedge_sim *sim, uint8_t record, uint8_t map, size_t k, size_t *count);
 
@@ -808,7 +820,7 @@ SEDGE_CHECK uint8_t sedge_sim_entry(struct sedge_sim *sim, uint8_t record, uint8
 #define SEDGE_RECEIVED ((uint8_t)4)
 #endif
 
-/* ---- Names that will be removed after 0.3: each call has another name now. ---- */
+/* ---- Old names of calls, which will be removed after 0.3. ---- */
 
 #define sedge_ground_report sedge_ground_clcw_in
 #define sedge_spacecraft_report sedge_spacecraft_telemetry_frame

@@ -21,9 +21,9 @@ faults! {
     LinkFault {
         NotOpen = 1, "the sender is in its state Initial (S6)";
         ClosedMap = 2, "the MAP is not open";
-        NotCommand = 3, "the octets are not command packets, or not as many as one call takes";
+        NotCommand = 3, "the octets are not command packets, or are more of them than one call takes";
         TooLong = 4, "a packet has more octets than it may have";
-        QueueFull = 5, "as many units wait as may wait";
+        QueueFull = 5, "the queue has too few free slots for the units";
         Memory = 6, "out of memory";
         NotKnown = 10, "nothing is known of how far the session has come";
     }

@@ -21,8 +21,8 @@ pub struct KeptEvent<'a> {
     pub map: u8,
     /// Of `sedge_directive`.
     pub directive: u8,
-    /// The directive's, as for `sedge_ground_directive`; or that of the CLCW with which the ground resumes, 0
-    /// to 255.
+    /// The directive's value, as for `sedge_ground_directive`; or the value of the CLCW with which the ground
+    /// resumes, 0 to 255.
     pub value: u16,
     /// Where the octets begin.
     pub octets: &'a [u8],
@@ -66,12 +66,12 @@ fn octet_in(value: u16) -> Option<u8>
     }
 }
 
-/// Lets an event happen. Returns 0 and writes the reply; or a number of `sedge_sim_fault`, and nothing
-/// happens; or `SEDGE_NODE_NONE`, also for a number that is not a kind, for a directive and a value if
-/// `sedge_ground_directive` returns it for them, and for a value above 255 with which the ground is to
-/// resume. No directive, resumption, loss, damage, CLCW by itself, tick or take returns `SEDGE_SIM_MEMORY`. A
-/// node's refusal is a reply. The octets of a frame that was sent, and of a packet that was taken, can be
-/// read until the next event (`sedge_sim_octets`).
+/// Lets an event happen. Returns 0 and writes the reply; a node's refusal is a reply too. Returns a number of
+/// `sedge_sim_fault` if nothing happens. Returns `SEDGE_NODE_NONE` also for a number that is not a kind, for
+/// a directive and a value for which `sedge_ground_directive` returns it, and for a resumption with a value
+/// above 255. No directive, resumption, loss, damage, CLCW by itself, tick or take returns
+/// `SEDGE_SIM_MEMORY`. The octets of a frame that was sent, and of a packet that was taken, can be read until
+/// the next event (`sedge_sim_octets`).
 #[unsafe(no_mangle)]
 #[must_use]
 pub extern "C" fn sedge_sim_step(

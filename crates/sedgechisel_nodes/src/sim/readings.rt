@@ -19,7 +19,7 @@ use tc_link::Sim;
 pub struct SimReading {
     /// The number of segments that were submitted and are not acknowledged.
     pub outstanding: usize,
-    /// How many of the frames sent, from the first on, the ground holds as acknowledged.
+    /// How many of the frames sent, from the first on, the ground regards as acknowledged.
     pub acknowledged: usize,
     /// The state of the ground's sender, of `sedge_fop_state`.
     pub state: u8,
@@ -104,7 +104,7 @@ pub extern "C" fn sedge_sim_spacecraft_read(
 }
 
 /// Writes the octets of the last event's frame or packet, and their number, which is the reply's `count`; or
-/// 0 octets if the reply had none. The octets stay. Returns 0 or `SEDGE_NODE_ROOM`.
+/// 0 octets if the reply had none. They can be read again. Returns 0 or `SEDGE_NODE_ROOM`.
 #[unsafe(no_mangle)]
 #[must_use]
 pub extern "C" fn sedge_sim_octets(

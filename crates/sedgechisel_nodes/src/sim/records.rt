@@ -49,7 +49,7 @@ fn entry_of(sim: &Sim, number: u8, map: u8, k: usize) -> Option<&[u8]>
 }
 
 /// Writes how many entries a record has, of `sedge_record`; the MAP matters only for `SEDGE_SUBMITTED` and
-/// `SEDGE_DELIVERED`. For any other number there are none. Returns 0.
+/// `SEDGE_DELIVERED`. For any other number, writes 0. Returns 0.
 #[unsafe(no_mangle)]
 pub extern "C" fn sedge_sim_count(
     alloc: Global,
@@ -79,7 +79,7 @@ fn length_of_entry(sim: &Sim, number: u8, map: u8, k: usize) -> Option<usize>
 }
 
 /// Writes how many octets entry `k` has, counted from 0. Returns 0, or `SEDGE_NODE_ABSENT` if there are not
-/// so many entries.
+/// that many entries.
 #[unsafe(no_mangle)]
 #[must_use]
 pub extern "C" fn sedge_sim_entry_length(

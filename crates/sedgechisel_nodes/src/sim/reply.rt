@@ -25,11 +25,11 @@ pub struct KeptReply {
     pub kind: u8,
     /// Of `sedge_refused_by`.
     pub by: u8,
-    /// Of the enumeration that `by` selects.
+    /// The number of the refusal, of the enumeration that `by` selects.
     pub fault: u8,
     /// Of `sedge_alert`.
     pub alert: u8,
-    /// Of the packet.
+    /// The MAP of the packet.
     pub map: u8,
 }
 
