@@ -571,9 +571,9 @@ export interface Calls {
     sedge_tc_declared(octets: Uint8Array, checked: boolean, total: Partial<Box>): number;
     /**
      * Reads the frames that follow one another in the octets, each as long as it declares (4.1.2.7), and writes a
-     * record of 12 octets for each to `out`, in order. A record contains the number of the frame's octets, the number
-     * that `sedge_tc_decode` returns for the frame, and the scid, vcid, kind, n, flags, map, command and vr that it
-     * writes, or 0 for each of these if it refuses the frame. The number of octets and the scid take two octets each,
+     * record of 12 octets for each to `out`, in order. A record begins with the number of the frame's octets and the
+     * number that `sedge_tc_decode` returns for the frame. Then come the scid, vcid, kind, n, flags, map, command and
+     * vr that it writes, or 0 for each if it refuses the frame. The number of octets and the scid take two octets each,
      * the lower one first. The data of a Type-AD or Type-BD frame begin 6 octets after the frame does. Stops when `out`
      * has no room for a record, or when no whole frame follows; call `sedge_tc_declared` with the octets there to find
      * out whether their length is refused. Writes the number of octets of all these frames to `total`. Returns the
@@ -655,9 +655,9 @@ export interface Calls {
     sedge_tm_packet(data: Uint8Array, packet: Partial<sedge_part>): boolean;
     /**
      * Takes the frames of this length that follow one another in the octets, each as `sedge_tm_decode` and then
-     * `sedge_tm_extractor_frame` take it, and writes a record of 19 octets for each to `out`, in order. A record begins
-     * with the number of octets of the frame's packets (four octets, the lowest one first), and the first fault of
-     * these two calls, or 0. Then come first, lost and dropped; dropped is 1 if a begun packet that is not idle is
+     * `sedge_tm_extractor_frame` take it. Writes a record of 19 octets for each frame to `out`, in order. A record
+     * begins with the number of octets of the frame's packets (four octets, the lowest one first), and the first fault
+     * of these two calls, or 0. Then come first, lost and dropped; dropped is 1 if a begun packet that is not idle is
      * dropped, and otherwise 0. The record ends with the frame's fields: the scid and the pointer (two octets each, the
      * lower one first), the vcid, mc_count, vc_count and ocf. These fields are 0 if the octets do not form a valid
      * frame. Writes the packets of all these frames to `packets`, one after another: `sedge_map_packet` finds where
@@ -741,8 +741,8 @@ export interface Calls {
      */
     sedge_log_status_decode(octets: Uint8Array, status: Partial<sedge_board_status>): number;
     /**
-     * Writes a command packet with this APID, sequence count and number, and with the mission's octets, to the
-     * beginning of `out`, and its length in octets, 14 more than the mission's, to `total`. Returns 0, or the first of
+     * Writes a command packet with this APID, sequence count and number and with the mission's octets to the beginning
+     * of `out`. Writes its length in octets, 14 more than the mission's, to `total`. Returns 0, or the first of
      * `SEDGE_LOG_FIELD_RANGE` (the APID is above 2,047, the count above 16,383, the number 0, or the mission's octets
      * are more than 65,528) and `SEDGE_LOG_ROOM`.
      */

@@ -12,7 +12,7 @@
  * - No pointer is null, and each is aligned for its type; this also holds if the count after the pointer is 0.
  * - The octets at a pointer, as many as the count after it states, may be read; if the pointer is not to const, they
  *   may also be written. The same holds for the struct or the number at a pointer to one. Octets and structs that a
- *   call reads have been written before; octets and structs that it only writes need not have been.
+ *   call reads are initialised; octets and structs that it only writes need not be.
  * - What a call writes overlaps nothing else that its arguments point to.
  * - A bool is false or true, as it always is if C or C++ converts it from another value.
  *
@@ -472,12 +472,12 @@ SEDGE_CHECK uint8_t sedge_tc_encode(const struct sedge_tc_frame *frame, const ui
 SEDGE_CHECK uint8_t sedge_tc_declared(const uint8_t *octets, size_t count, bool checked, size_t *total);
 
 /* Reads the frames that follow one another in the octets, each as long as it declares (4.1.2.7), and writes a record of
- * 12 octets for each to out, in order. A record contains the number of the frame's octets, the number that
- * sedge_tc_decode returns for the frame, and the scid, vcid, kind, n, flags, map, command and vr that it writes, or 0
- * for each of these if it refuses the frame. The number of octets and the scid take two octets each, the lower one
- * first. The data of a Type-AD or Type-BD frame begin 6 octets after the frame does. Stops when out has no room for a
- * record, or when no whole frame follows; call sedge_tc_declared with the octets there to find out whether their length
- * is refused. Writes the number of octets of all these frames to total. Returns the number of frames. */
+ * 12 octets for each to out, in order. A record begins with the number of the frame's octets and the number that
+ * sedge_tc_decode returns for the frame. Then come the scid, vcid, kind, n, flags, map, command and vr that it writes,
+ * or 0 for each if it refuses the frame. The number of octets and the scid take two octets each, the lower one first.
+ * The data of a Type-AD or Type-BD frame begin 6 octets after the frame does. Stops when out has no room for a record,
+ * or when no whole frame follows; call sedge_tc_declared with the octets there to find out whether their length is
+ * refused. Writes the number of octets of all these frames to total. Returns the number of frames. */
 size_t sedge_tc_frames(const uint8_t *octets, size_t count, bool checked, uint8_t *out, size_t room, size_t *total);
 
 /* ---- Space packets of 7 to 65,542 octets (133.0-B-2, 4.1). ---- */
@@ -633,10 +633,9 @@ SEDGE_CHECK uint8_t sedge_tm_builder_build(struct sedge_tm_builder *builder, con
 
 /* An extractor of the packets of one virtual channel. Initialise it to {0, 0, 0, 0}; its fields may be read at any
  * time. The memory holds the part, the beginning of a packet that has not ended, and after a frame also the packet
- * that the frame ended. The memory is large enough if it has as many octets as the longest packet, idle packets
- * included, and the data of a frame have together; 67,578 octets are enough for all packets. A call returns
- * SEDGE_DAMAGED if seen is above 1, if the part is not in the memory, or if there is a part although no frame was
- * seen. */
+ * that the frame ended. The memory is large enough if it has as many octets as the longest packet (idle packets
+ * included) and the data of a frame together. 67,578 octets are enough for all packets. A call returns SEDGE_DAMAGED if
+ * seen is above 1, if the part is not in the memory, or if there is a part although no frame was seen. */
 struct sedge_tm_extractor {
     size_t from;  /* where the part is in the memory */
     size_t count; /* the number of octets of the part, or 0 if there is none */
@@ -673,7 +672,7 @@ SEDGE_CHECK uint8_t sedge_tm_extractor_frame(struct sedge_tm_extractor *extracto
 SEDGE_CHECK bool sedge_tm_packet(const uint8_t *data, size_t data_count, struct sedge_part *packet);
 
 /* Takes the frames of this length that follow one another in the octets, each as sedge_tm_decode and then
- * sedge_tm_extractor_frame take it, and writes a record of 19 octets for each to out, in order. A record begins with
+ * sedge_tm_extractor_frame take it. Writes a record of 19 octets for each frame to out, in order. A record begins with
  * the number of octets of the frame's packets (four octets, the lowest one first), and the first fault of these two
  * calls, or 0. Then come first, lost and dropped; dropped is 1 if a begun packet that is not idle is dropped, and
  * otherwise 0. The record ends with the frame's fields: the scid and the pointer (two octets each, the lower one
@@ -899,10 +898,10 @@ struct sedge_board_status {
  * octets are not 27, then 2 Check. */
 SEDGE_CHECK uint8_t sedge_log_status_decode(const uint8_t *octets, size_t count, struct sedge_board_status *status);
 
-/* Writes a command packet with this APID, sequence count and number, and with the mission's octets, to the beginning of
- * out, and its length in octets, 14 more than the mission's, to total. Returns 0, or the first of SEDGE_LOG_FIELD_RANGE
- * (the APID is above 2,047, the count above 16,383, the number 0, or the mission's octets are more than 65,528) and
- * SEDGE_LOG_ROOM. */
+/* Writes a command packet with this APID, sequence count and number and with the mission's octets to the beginning of
+ * out. Writes its length in octets, 14 more than the mission's, to total. Returns 0, or the first of
+ * SEDGE_LOG_FIELD_RANGE (the APID is above 2,047, the count above 16,383, the number 0, or the mission's octets are
+ * more than 65,528) and SEDGE_LOG_ROOM. */
 SEDGE_CHECK uint8_t sedge_log_command_encode(uint16_t apid, uint16_t count, uint32_t number, const uint8_t *content,
                                              size_t content_count, uint8_t *out, size_t room, size_t *total);
 

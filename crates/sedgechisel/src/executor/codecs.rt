@@ -85,8 +85,8 @@ fn status_with(found: &Status, waiting: u8) -> LogStatus
     }
 }
 
-/// Writes a command packet with this APID, sequence count and number, and with the mission's octets, to the
-/// beginning of `out`, and its length in octets, 14 more than the mission's, to `total`. Returns 0, or the
+/// Writes a command packet with this APID, sequence count and number and with the mission's octets to the
+/// beginning of `out`. Writes its length in octets, 14 more than the mission's, to `total`. Returns 0, or the
 /// first of `SEDGE_LOG_FIELD_RANGE` (the APID is above 2,047, the count above 16,383, the number 0, or the
 /// mission's octets are more than 65,528) and `SEDGE_LOG_ROOM`.
 #[unsafe(no_mangle)]
