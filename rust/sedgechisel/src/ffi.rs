@@ -2,8 +2,8 @@
 //! compares each number with the header, and `tools/bindings` writes the calls and the fields of structs.
 //!
 //! What the header requires of a caller holds for all calls here:
-//! - each pointer is made of a reference or of a slice, so it is not null, is aligned, and may be read or written;
-//! - the count after a pointer to octets is that of the same slice, and Rust's octets are always written;
+//! - each pointer is made from a reference or a slice, so it is not null, is aligned, and may be read or written;
+//! - the count after a pointer to octets is the length of the same slice, and Rust's octets are always initialised;
 //! - what is written is behind a `&mut`, so nothing else overlaps it;
 //! - a `bool` is false or true.
 #![allow(unsafe_code, dead_code)]
@@ -116,7 +116,7 @@ pub struct Part {
 }
 
 impl Part {
-    /// The octets that the part is of these.
+    /// Returns the part of these octets.
     pub fn of(self, octets: &[u8]) -> &[u8] {
         &octets[self.from..][..self.count]
     }

@@ -47,7 +47,7 @@ pub enum Control {
     Idle,
     /// It must be sent.
     Due(Command),
-    /// It is sent.
+    /// It has been sent.
     Sent(Command),
 }
 
@@ -56,11 +56,11 @@ pub enum Control {
 pub enum Next {
     /// The control command Unlock, in a Type-BC frame.
     Unlock,
-    /// The control command Set V(R) with the number, in a Type-BC frame.
+    /// The control command Set V(R) with this number, in a Type-BC frame.
     SetVr(u8),
-    /// The unit that waits, in a Type-AD frame with the number; keep it under that number.
+    /// The unit that waits, in a Type-AD frame with this number; keep the unit under the number.
     First(u8),
-    /// The unit kept under the number, in a Type-AD frame with that number.
+    /// The unit kept under this number, in a Type-AD frame with the number.
     Again(u8),
 }
 
@@ -260,11 +260,11 @@ impl Fop {
 
     /// Returns how many of the units that were sent and not acknowledged were accepted on board when a CLCW of this
     /// value was made. They are the oldest ones, with the numbers from NN(R) to `value` - 1 (CCSDS 232.1-B-2, 5.1). If
-    /// V(S) = NN(R), the result is 0 for every value. If V(S) is not NN(R) and the value is beyond V(S), the result is
-    /// `None`: then nothing is known of these units. The call works after an alert too, until V(S) is set or an
-    /// initiation begins. It uses only the numbers: after an alert that shows a broken condition nothing is known of
-    /// these units, whatever the call returns. For a CLCW that was made while frames were in transit on the uplink, the
-    /// result may be too small (docs/CONTROL.md, "The steps").
+    /// V(S) = NN(R), the result is 0 for every value. If V(S) is not NN(R) and the value does not lie from NN(R) to
+    /// V(S), the result is `None`: then nothing is known of these units. The call works after an alert too, until V(S)
+    /// is set or an initiation begins. It uses only the numbers: after an alert that shows a broken condition nothing
+    /// is known of these units, whatever the call returns. For a CLCW that was made while frames were in transit on the
+    /// uplink, the result may be too small (docs/CONTROL.md, "The steps").
     #[must_use]
     pub fn accepted_beyond(&self, value: u8) -> Option<u8> {
         let mut accepted = 0;

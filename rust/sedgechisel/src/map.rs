@@ -180,8 +180,8 @@ impl<'a> Segments<'a> {
         Some((flags, data.of(self.octets)))
     }
 
-    /// The packets that are left, up to the first with which they exceed a segment. Later packets do not change the
-    /// next segment.
+    /// The packets that are left, up to and including the first with which they no longer fit into one segment. Later
+    /// packets do not change the next segment.
     fn first_packets(&self) -> &'a [u8] {
         let mut last = ffi::Part::default();
         let mut end = 0;

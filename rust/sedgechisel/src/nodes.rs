@@ -48,7 +48,7 @@ fn taken(count: usize, take: impl FnOnce(&mut [u8], &mut usize) -> u8) -> Result
     Ok(Some(packet))
 }
 
-/// What a call takes out, one after another on request, until there is no more; a refusal is the last.
+/// Yields on request what a call takes out, until there is no more; a refusal is the last item.
 fn one_by_one<'n, T: 'n>(
     mut take: impl FnMut() -> Result<Option<T>, LinkFault> + 'n,
 ) -> impl FusedIterator<Item = Result<T, LinkFault>> + 'n {
@@ -64,7 +64,7 @@ fn one_by_one<'n, T: 'n>(
     from_fn(next).fuse()
 }
 
-/// Calls that can be refused only because memory runs out.
+/// Judges the result of a call that can be refused only because memory runs out.
 fn in_memory(answer: u8) -> Result<(), LinkFault> {
     match answer {
         ffi::SEDGE_OK => Ok(()),

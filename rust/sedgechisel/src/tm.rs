@@ -185,7 +185,7 @@ impl Pointer {
         }
     }
 
-    /// A place whose number has another meaning is after all data, and so is the place before these.
+    /// The number. A place whose number has another meaning becomes the one below these; all are after any data.
     fn raw(self) -> u16 {
         match self {
             Self::At(place) => place.min(ffi::SEDGE_POINTER_ONLY_IDLE - 1),

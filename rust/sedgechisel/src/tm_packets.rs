@@ -6,8 +6,8 @@ use crate::memory::Memory;
 use crate::tm::{Pointer, TmFault, TmFrame};
 use core::iter::FusedIterator;
 
-/// Builds the frames of one virtual channel, all of one length, from packets. These wait in memory that the caller
-/// lends or, with the feature `nodes`, in memory of its own (CCSDS 132.0-B-3, 4.2).
+/// Builds the frames of one virtual channel, all of one length, from packets. The packets wait in memory that the
+/// caller lends or, with the feature `nodes`, that the builder owns (CCSDS 132.0-B-3, 4.2).
 ///
 /// ```
 /// use sedgechisel::{Pointer, TmBuilder, TmFrame};
@@ -92,7 +92,7 @@ impl ffi::TmBuilder {
 }
 
 /// Extracts packets from the frames of one virtual channel; any of the frames may be missing. The part of a packet that
-/// has not ended is in memory that the caller lends or, with the feature `nodes`, in memory of its own (CCSDS
+/// has not ended is in memory that the caller lends or, with the feature `nodes`, that the extractor owns (CCSDS
 /// 132.0-B-3, 4.3).
 ///
 /// Pass packets on before you take the next frame, which may overwrite them. So this does not compile:
@@ -137,8 +137,8 @@ impl<'m> TmExtractor<'m> {
     ///
     /// # Errors
     ///
-    /// Refused with the first of 10 [`FieldRange`](TmFault::FieldRange), for a pointer after the data, and 7
-    /// [`Memory`](TmFault::Memory); then the frame counts as missing.
+    /// Refused with the first of 10 [`FieldRange`](TmFault::FieldRange) (a pointer after the data) and 7
+    /// [`Memory`](TmFault::Memory); the frame then counts as missing.
     pub fn take<'t>(&'t mut self, frame: &TmFrame<'t>) -> Result<Extracted<'t>, TmFault> {
         let (kept, memory, mut extracted) = (&mut self.kept, &mut self.memory, ffi::TmExtracted::default());
         TmFault::judge(ffi::tm_extractor_frame(kept, &frame.raw(), frame.data, memory, &mut extracted))?;
@@ -258,7 +258,7 @@ impl Begun {
     }
 
     /// Whether a frame that was taken drops this packet, and the packet is not idle (docs/PROFILE.md, "Extraction", 1
-    /// to 4). After the frame this many octets are left of a packet that has not ended.
+    /// to 4). `left` is the number of octets, after the frame, of a packet that has not ended.
     fn is_dropped(&self, frame: &ffi::TmFrame, data: &[u8], taken: &ffi::TmExtracted, left: usize) -> bool {
         let goes_on = frame.pointer == ffi::SEDGE_POINTER_NO_START && left > 0;
         if self.count == 0 || taken.joined > 0 || goes_on {

@@ -1,7 +1,7 @@
-//! The calls of c/include/sedgechisel_nodes.h, and the memory that they are given: that of the program's allocator.
+//! The calls of c/include/sedgechisel_nodes.h, and the memory that they use, which the program's allocator provides.
 //!
-//! A handle is made by `default`, is never copied, and is closed when it is dropped. No two calls use one at once: each
-//! has it by a `&mut`, or by an [`Own`], which two threads cannot share.
+//! A handle is created by `default`, is never copied, and is closed when it is dropped. No two calls use a handle at
+//! once: each takes it by `&mut`, or from an [`Own`], which two threads cannot share.
 
 use super::{Clcw, Text};
 use crate::nodes::Raw as Config;
@@ -198,7 +198,7 @@ macro_rules! handle {
             }
         }
 
-        // SAFETY: what the handle refers to is its own, and memory may be given back by another thread than took it.
+        // SAFETY: the handle owns what it refers to, and any thread may release memory that another one allocated.
         unsafe impl Send for $name {}
     };
 }
@@ -207,7 +207,7 @@ handle!(Ground, sedge_ground_close);
 handle!(Spacecraft, sedge_spacecraft_close);
 handle!(Sim, sedge_sim_close);
 
-/// A handle, which the calls that only read it write and put back as it was.
+/// A handle. Even a call that only reads writes to it, and then restores it.
 #[derive(Default)]
 pub struct Own<T>(UnsafeCell<T>);
 
@@ -216,14 +216,14 @@ impl<T> Own<T> {
         self.0.get_mut()
     }
 
-    /// A call that only reads.
+    /// Makes a call that only reads.
     pub fn read(&self, call: impl FnOnce(&mut T) -> u8) {
         // SAFETY: an `UnsafeCell` is not `Sync`, and a call of the library makes no other one, so this is the one
         // reference to the handle while it runs.
         crate::numbers::done(call(unsafe { &mut *self.0.get() }));
     }
 
-    /// Whether a call that only reads found what it asks for.
+    /// Returns whether a call that only reads found what it looks for.
     pub fn is_there(&self, call: impl FnOnce(&mut T) -> u8) -> bool {
         let mut found = true;
         self.read(|it| match call(it) {
@@ -236,7 +236,7 @@ impl<T> Own<T> {
         found
     }
 
-    /// The number that a call writes, which only reads.
+    /// Returns the number that a reading call writes.
     pub fn number(&self, call: impl FnOnce(&mut T, &mut usize) -> u8) -> usize {
         let mut number = 0;
         self.read(|it| call(it, &mut number));
@@ -246,7 +246,7 @@ impl<T> Own<T> {
 
 // ---- The memory of the nodes, in the program's allocator. ----
 
-/// What the library asks memory by: a place, if one was found.
+/// The result of an allocation for the library: a place, if one was found.
 #[repr(C)]
 pub struct Place {
     found: bool,
@@ -254,7 +254,7 @@ pub struct Place {
 }
 
 impl Place {
-    /// The place after the head of a block, which says how many octets the block has.
+    /// Returns the place after the head of a block. The head contains the block's number of octets.
     fn of(block: *mut u8, count: usize) -> Self {
         if block.is_null() {
             return Self { found: false, at: NonNull::dangling().as_ptr() };
@@ -267,21 +267,21 @@ impl Place {
     }
 }
 
-/// The octets of a block's head; and the alignment of a block, which is the most that is asked for.
+/// The number of octets in a block's head. It is also the alignment of blocks, the greatest that the library requests.
 const HEAD: usize = 16;
 
-/// The layout of a block for `count` octets, if there can be one.
+/// Returns the layout of a block for `count` octets, if there can be one.
 fn layout_for(count: usize) -> Option<Layout> {
     Layout::from_size_align(count.checked_add(HEAD)?, HEAD).ok()
 }
 
-/// A block, and the layout with which it was taken.
+/// Returns a block, and the layout with which it was allocated.
 ///
 /// # Safety
 ///
-/// `at` is a place that `Place::of` made, and its block is not given back yet.
+/// `at` is a place that `Place::of` returned, and its block has not been released.
 unsafe fn block_of(at: *mut c_void) -> (*mut u8, Layout) {
-    // SAFETY: the block begins with its head, which has the size of a layout that there was.
+    // SAFETY: the block begins with its head, which contains the size of a valid layout.
     unsafe {
         let block = at.cast::<u8>().sub(HEAD);
         (block, Layout::from_size_align_unchecked(block.cast::<usize>().read(), HEAD))
@@ -299,12 +299,12 @@ extern "C" fn rattle_alloc(count: usize, _align: usize) -> Place {
 
 /// # Safety
 ///
-/// The library gives a place that it was given, and uses it no more where another one is found.
+/// The library passes a place that it received, and no longer uses it if another one is found.
 #[unsafe(no_mangle)]
 unsafe extern "C" fn rattle_realloc(at: *mut c_void, _kept: usize, count: usize, _align: usize) -> Place {
     match layout_for(count) {
         Some(layout) => {
-            // SAFETY: as above; the new size is that of a layout with the same alignment.
+            // SAFETY: `at` is as stated above; the new size is that of a layout with the same alignment.
             let moved = unsafe {
                 let (block, taken) = block_of(at);
                 realloc(block, taken, layout.size())
@@ -317,10 +317,10 @@ unsafe extern "C" fn rattle_realloc(at: *mut c_void, _kept: usize, count: usize,
 
 /// # Safety
 ///
-/// The library gives a place that it was given, and uses it no more.
+/// The library passes a place that it received, and no longer uses it.
 #[unsafe(no_mangle)]
 unsafe extern "C" fn rattle_dealloc(at: *mut c_void) {
-    // SAFETY: as above.
+    // SAFETY: `at` is as stated above.
     unsafe {
         let (block, taken) = block_of(at);
         dealloc(block, taken);
@@ -329,7 +329,7 @@ unsafe extern "C" fn rattle_dealloc(at: *mut c_void) {
 
 // ---- Events. ----
 
-/// An event happens: its kind, and what it has of a MAP, a directive or a report's value, and octets.
+/// Makes an event happen, given its kind and, if it has them, a MAP, a directive or a CLCW's value, and octets.
 pub fn sim_step(
     sim: &mut Sim, kind: u8, map: u8, (directive, value): (u8, u16), octets: &[u8], reply: &mut Reply,
 ) -> u8 {

@@ -109,7 +109,7 @@ pub(super) fn alert_of(number: u8) -> Option<Alert> {
 pub struct KeptGround {
     /// How many submissions are acknowledged whole, modulo 2^64.
     pub acknowledged: u64,
-    /// V(S), the number of the next segment that is sent for the first time.
+    /// V(S), the number of the next segment to be sent for the first time.
     pub vs: u8,
     /// NN(R), the number that the spacecraft was last known to expect.
     pub nn: u8,
@@ -180,7 +180,7 @@ impl Ground {
     /// # let _ = frame;
     /// drop(ground); // it is lost
     /// let mut ground = Ground::open_at(&Config::default(), &kept)?;
-    /// assert_eq!(ground.resume(1), Ok(1)); // a report says V(R) = 1: the packet is on board
+    /// assert_eq!(ground.resume(1), Ok(1)); // a CLCW has V(R) = 1: the packet is on board
     /// # Ok::<(), Box<dyn std::error::Error>>(())
     /// ```
     pub fn open_at(config: &Config, kept: &KeptGround) -> Result<Self, OpenFault> {
@@ -234,7 +234,7 @@ impl Ground {
 
     /// Submits one packet on a MAP under sequence control, or with blocking several, one after another. Returns the
     /// number of this submission in its session, from 0. [`resume`](Self::resume) counts submissions. If several
-    /// packets do not fit into one segment together, of [`part`](Config::part) octets, some of them may be on board
+    /// packets together do not fit into one segment of [`part`](Config::part) octets, some of them may be on board
     /// although the submission is not counted.
     ///
     /// # Errors
@@ -356,10 +356,10 @@ impl Ground {
 
     /// Returns how many of the segments that were sent and not acknowledged were accepted on board when a CLCW of this
     /// value was made. They are the oldest ones (CCSDS 232.1-B-2, 5.1). If V(S) = NN(R), the result is 0 for every
-    /// value. If V(S) is not NN(R) and the value is beyond V(S), the result is `None`: then nothing is known of these
-    /// segments. The call works after an alert too, until V(S) is set or an initiation begins. It uses only the
-    /// numbers: after an alert that shows a broken condition nothing is known of these segments, whatever the call
-    /// returns. For a CLCW that was made while frames were in transit on the uplink, the result may be too small
+    /// value. If V(S) is not NN(R) and the value does not lie from NN(R) to V(S), the result is `None`: then nothing is
+    /// known of these segments. The call works after an alert too, until V(S) is set or an initiation begins. It uses
+    /// only the numbers: after an alert that shows a broken condition nothing is known of these segments, whatever the
+    /// call returns. For a CLCW that was made while frames were in transit on the uplink, the result may be too small
     /// (docs/CONTROL.md, "The steps").
     #[must_use]
     pub fn accepted_beyond(&self, value: u8) -> Option<u8> {
@@ -431,7 +431,7 @@ impl Ground {
         FopState::of(self.read().state)
     }
 
-    /// V(S), the number of the next segment that is sent for the first time.
+    /// V(S), the number of the next segment to be sent for the first time.
     #[must_use]
     pub fn vs(&self) -> u8 {
         self.read().vs
@@ -449,13 +449,13 @@ impl Ground {
         self.read().outstanding
     }
 
-    /// The number of segments outstanding that wait to be sent for the first time.
+    /// The number of outstanding segments that wait to be sent for the first time.
     #[must_use]
     pub fn unsent(&self) -> usize {
         self.read().unsent
     }
 
-    /// The number of segments outstanding that are to be retransmitted.
+    /// The number of outstanding segments that are to be retransmitted.
     #[must_use]
     pub fn due(&self) -> usize {
         self.read().due

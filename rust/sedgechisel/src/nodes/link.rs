@@ -51,12 +51,12 @@ pub enum Begun {
     SetVr(u8),
 }
 
-/// A record of the session, which begins with each initiation that the ground accepts.
+/// A record of the session. Each initiation that the ground accepts begins a new session.
 #[derive(Clone, Copy, Debug, PartialEq, Eq, Hash)]
 pub enum Record {
     /// The packets submitted on a MAP.
     Submitted(u8),
-    /// The packets that are ready on board on a MAP, taken or not.
+    /// The packets that became ready on board on a MAP, taken or not.
     Delivered(u8),
     /// The data fields of Type-AD frames, in the order in which they were first sent.
     Sent,
@@ -224,8 +224,8 @@ impl Link {
     ///
     /// # Errors
     ///
-    /// Refused with 7 [`NothingInTransit`](SimFault::NothingInTransit) if there is no frame, or with 8
-    /// [`NotDetectable`](SimFault::NotDetectable) if the octets are one.
+    /// Refused with 7 [`NothingInTransit`](SimFault::NothingInTransit) if there is none, or with 8
+    /// [`NotDetectable`](SimFault::NotDetectable) if the octets form a valid frame.
     pub fn up_damage(&mut self, octets: &[u8]) -> Result<Received, SimFault> {
         let reply = self.event(SEDGE_EVENT_UP_DAMAGE, 0, octets)?;
         Ok(Received::from_raw(&reply.up))
@@ -265,15 +265,15 @@ impl Link {
     ///
     /// # Errors
     ///
-    /// Refused with 7 [`NothingInTransit`](SimFault::NothingInTransit) if there is no frame, or with 8
-    /// [`NotDetectable`](SimFault::NotDetectable) if the octets are one.
+    /// Refused with 7 [`NothingInTransit`](SimFault::NothingInTransit) if there is none, or with 8
+    /// [`NotDetectable`](SimFault::NotDetectable) if the octets form a valid frame.
     pub fn down_damage(&mut self, octets: &[u8]) -> Result<Heard, SimFault> {
         let reply = self.event(SEDGE_EVENT_DOWN_DAMAGE, 0, octets)?;
         Ok(Heard::from_raw(&reply.down))
     }
 
     /// Delivers the first frame in transit on the downlink, but only its CLCW reaches the ground, as by
-    /// [`Ground::clcw`](crate::Ground::clcw); telemetry is not touched.
+    /// [`Ground::clcw`](crate::Ground::clcw); telemetry is unchanged.
     ///
     /// # Errors
     ///
@@ -386,7 +386,7 @@ impl Link {
         read
     }
 
-    /// V(S) of the ground, the number of the next segment that is sent for the first time.
+    /// V(S) of the ground, the number of the next segment to be sent for the first time.
     #[must_use]
     pub fn vs(&self) -> u8 {
         self.read_ground().vs
@@ -398,13 +398,13 @@ impl Link {
         self.read_ground().nn
     }
 
-    /// The number of segments outstanding that wait to be sent for the first time.
+    /// The number of outstanding segments that wait to be sent for the first time.
     #[must_use]
     pub fn unsent(&self) -> usize {
         self.read_ground().unsent
     }
 
-    /// The number of segments outstanding that are to be retransmitted.
+    /// The number of outstanding segments that are to be retransmitted.
     #[must_use]
     pub fn due(&self) -> usize {
         self.read_ground().due

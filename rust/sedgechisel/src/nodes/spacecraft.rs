@@ -29,7 +29,7 @@ pub enum Received {
     },
     /// A Type-BD frame.
     Bypass {
-        /// Whether it carried a packet, which is kept.
+        /// Whether it carried a packet, which is then kept.
         kept: bool,
     },
     /// A Type-BC frame with this control command.
@@ -78,8 +78,8 @@ pub(super) fn word_of(read: raw::SpacecraftReading) -> Clcw {
     })
 }
 
-/// The spacecraft: it receives packets and reports, and sends telemetry (docs/PROFILE.md, "The node on board"). Its
-/// memory is released when it is dropped.
+/// The spacecraft: it receives packets, reports in CLCWs, and sends telemetry (docs/PROFILE.md, "The node on board").
+/// Its memory is released when it is dropped.
 ///
 /// ```
 /// use sedgechisel::{Config, Received, Spacecraft, Verdict};
