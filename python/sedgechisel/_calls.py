@@ -193,7 +193,7 @@ class Clcw(_Struct):
     no_bit_lock: bool = _flag("no_bit_lock", Flags.NO_BIT_LOCK, "The receiver has no bit lock.")
     lockout: bool = _flag("lockout", Flags.LOCKOUT, "The receiver is in its state Lockout.")
     wait: bool = _flag("wait", Flags.WAIT, "There is no room on board for a further frame.")
-    retransmit: bool = _flag("retransmit", Flags.RETRANSMIT, "Frames have to be sent again, from the report value on.")
+    retransmit: bool = _flag("retransmit", Flags.RETRANSMIT, "Frames must be retransmitted, from the report value on.")
 
     def __init__(self, status: int = 0, vcid: int = 0, flags: int = 0, farm_b: int = 0, value: int = 0) -> None:
         super().__init__(status, vcid, flags, farm_b, value)
@@ -496,18 +496,18 @@ class Fop(_Struct, Directives):
 
     def accepted_beyond(self, value: int) -> Optional[int]:
         """Returns how many of the sent and unacknowledged units, oldest first, had been accepted on board when a CLCW
-        with this value was made. Returns 0 if V(S) = NN(R), whatever the value; otherwise None if the value is beyond
-        V(S), because nothing is then known of these units. Works after an alert too, in S6, until V(S) is set or an
-        initiation begins (5.1). Uses only the numbers: after an alert that shows a broken condition nothing is known of
-        the units, whatever this returns."""
+        with this value was made. Returns 0 if V(S) = NN(R), whatever the value; otherwise None if the value is not in
+        the range from NN(R) to V(S), because nothing is then known of these units. Works after an alert too, in S6,
+        until V(S) is set or an initiation begins (5.1). Uses only the numbers: after an alert that shows a broken
+        condition nothing is known of the units, whatever this returns."""
         return _accepted_of(_fop_accepted_beyond, self._memory, value)
 
 
 def accepted_beyond(nn: int, vs: int, value: int) -> Optional[int]:
     """Returns how many of the sent and unacknowledged units of a sender with these NN(R) and V(S), oldest first, had
     been accepted on board when a CLCW with this value was made. Returns 0 if V(S) = NN(R), whatever the value;
-    otherwise None if the value is beyond V(S), because nothing is then known of these units. `Fop` and `Ground` have a
-    method of this name for their own numbers."""
+    otherwise None if the value is not in the range from NN(R) to V(S), because nothing is then known of these units.
+    `Fop` and `Ground` have a method of this name for their own numbers."""
     return _accepted_of(_accepted_beyond, nn, vs, value)
 
 

@@ -9,11 +9,11 @@ from ._faults import ClcwFault, Fault, TcFault, TmFault
 from ._ladder import clcw_name
 from ._library import frame_length_of
 
-_FARTHEST = 300  # frames among which those that lead to a CLCW are looked for
+_FARTHEST = 300  # how many frames after the previous CLCW are searched for those that cause the next one
 _LOCKOUT, _WAIT, _RETRANSMIT = int(Flags.LOCKOUT), int(Flags.WAIT), int(Flags.RETRANSMIT)
 _State = Tuple[int, int, int]  # of a receiver: V(R), FARM-B and flags
 _States = Dict[Tuple[int, int], int]  # by FARM-B and flags, where bit v says that V(R) may be v
-_BELOW = [sum(1 << (number - above) % 256 for above in range(1, 128)) for number in range(256)]  # each N(S) is ahead of
+_BELOW = [sum(1 << (number - above) % 256 for above in range(1, 128)) for number in range(256)]  # V(R) behind each N(S)
 _Word = Union[Clcw, ClcwFault, TmFault]
 
 

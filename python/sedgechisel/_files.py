@@ -21,8 +21,8 @@ def read_frames(file: Readable, length: int) -> Iterator[bytes]:
     frame, if octets are left at the end, with their number.
 
     The file must be a binary file whose reads wait for octets: one opened with "rb", buffered or not, a pipe,
-    `socket.makefile("rb")`, or a file that is decompressed. A frame is yielded once its last octet has arrived. About
-    65,536 octets are read at once, so the file is read beyond the frame that was yielded."""
+    `socket.makefile("rb")`, or a file that is decompressed. A frame is yielded once its last octet has arrived. At most
+    65,536 octets are read at once, so the file may be read beyond the frame that was yielded."""
     read = getattr(file, "read1", None) or getattr(file, "read", None)
     if read is None:
         raise TypeError(f"file: {file!r} has no read")

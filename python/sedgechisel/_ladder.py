@@ -8,7 +8,7 @@ from typing import Any, Callable, Dict, List, Sequence, Tuple
 MOST_ROWS = 1000
 # The lines of a script that happen on board.
 ON_BOARD = {"report", "take", "takebypass", "telemetry"}
-# Where the ends are, where their lines begin, the first row, the height of a row, and how many letters fit beside.
+# The two ends, the width, where the ends' lines begin, the first row, a row's height, and how many letters fit beside.
 _GROUND, _CRAFT, _WIDTH, _HEAD, _TOP, _ROW, _SIDE = 300, 600, 900, 34, 54, 26, 36
 _NO_TIMES = "Captures have no times: each CLCW is drawn as early as it can follow from the frames."
 _STYLE = ("text { font: 13px monospace; fill: #123; paint-order: stroke; stroke: #fff; stroke-width: 6px; "

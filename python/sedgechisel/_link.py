@@ -60,8 +60,8 @@ class Link(Directives, Handle):
     """A simulated link: a ground, a spacecraft with the same parameters, and the frames in transit between them, first
     in, first out. It keeps the records of its session; each initiation that the ground accepts begins a new one.
 
-    An event that a node refuses raises the node's fault, as in `Ground` and `Spacecraft`. Any event may also run out of
-    memory and raise a LinkFault or TelemetryFault (Memory) or a SimFault. Nothing has changed then."""
+    An event that a node refuses raises the node's fault, as in `Ground` and `Spacecraft`. An event that needs memory
+    may run out of it, and raise LinkFault 6, TelemetryFault 7 or SimFault 6 (Memory). Nothing has changed then."""
 
     _opens, _closes = _sim_open, _sim_close
 

@@ -141,7 +141,8 @@ class BoardStatus(NamedTuple):
     last: int
     """The number of the last command that was executed or passed over."""
     known: int
-    """A bit for each of the 64 numbers up to last, the lowest for last: 1 if it is known that it was executed."""
+    """A bit for each of the 64 numbers up to last, the lowest for last: 1 if it is known that the command was
+    executed, whole."""
     history: int
     """The running check of all commands that were taken (`history_after`)."""
     begun: bool

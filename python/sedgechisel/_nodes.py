@@ -207,10 +207,10 @@ class Handle(Single):
         return _written(self._asked, call, most, self._handle, *values)
 
     def _take_out(self, call: Callable[..., int], most: int, made: Callable[[int, bytes], Any], *map: c_uint8) -> Any:
-        """Returns what a call takes out of the node, made of its MAP and its octets, or None. If a signal handler
-        raises after the call, what it took is left here, and the next such call returns it: the interpreter runs a
-        handler after a call or an iteration of a loop, so not between a statement without a call and the `return` after
-        it."""
+        """Returns what a call takes out of the node, built from its MAP and its octets, or None. If a signal handler
+        raises after the call, what the call took is kept here, and the next such call returns it. The interpreter runs
+        a handler after a call or an iteration of a loop. It therefore runs none between a statement without a call and
+        the `return` after it."""
         left = self._left[call.__name__]
         while left:
             entry = left[0]
@@ -542,10 +542,10 @@ class Ground(Directives, Handle):
 
     def accepted_beyond(self, value: int) -> Optional[int]:
         """Returns how many of the sent and unacknowledged segments, oldest first, had been accepted on board when a
-        CLCW with this value was made. Returns 0 if V(S) = NN(R), whatever the value; otherwise None if the value is
-        beyond V(S), because nothing is then known of these segments. Works after an alert too, in S6, until V(S) is set
-        or an initiation begins (232.1-B-2, 5.1). Uses only the numbers: after an alert that shows a broken condition
-        nothing is known of the segments, whatever this returns."""
+        CLCW with this value was made. Returns 0 if V(S) = NN(R), whatever the value; otherwise None if the value is not
+        in the range from NN(R) to V(S), because nothing is then known of these segments. Works after an alert too, in
+        S6, until V(S) is set or an initiation begins (232.1-B-2, 5.1). Uses only the numbers: after an alert that shows
+        a broken condition nothing is known of the segments, whatever this returns."""
         accepted = c_uint8()
         return None if self._is_absent(_ground_accepted_beyond(self._handle, value, accepted)) else accepted.value
 
@@ -562,8 +562,8 @@ class Ground(Directives, Handle):
         """Begins the next session after the alert Timer, Limit or Terminated, at the point that the ended session
         reached. Sets V(S) to the value of a CLCW that was made when nothing was in transit on the uplink, and begins by
         Unlock (232.1-B-2, 5.2.4). Returns how many of the ended session's submissions, counted from the first, are on
-        board whole; submit the later ones again. (If a submission has several packets that do not fit into one segment
-        together, some of them may be on board although it is not counted.) If V(S) = NN(R), it accepts any value, so
+        board whole; resubmit the later ones. (If the packets of a submission do not fit into one segment together, some
+        of them may be on board although the submission is not counted.) If V(S) = NN(R), it accepts any value, so
         compare the value with V(S) first (docs/CONTROL.md, "After an alert").
 
         Raises LinkFault 10 (NotKnown) if nothing is known of what is on board: the sender is not in S6, no session has
