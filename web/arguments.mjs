@@ -1,4 +1,4 @@
-// What is checked of each argument before a call runs: of numbers, octets, arrays and objects.
+// The checks of each argument before a call runs: numbers, octets, arrays and objects.
 
 // The largest number of each kind.
 /** @type {Record<string, number | bigint>} */
@@ -50,7 +50,7 @@ function isList(value) {
 }
 
 /**
- * Returns an object that has the fields of a struct, or takes what a call writes.
+ * Returns the value if it is an object, which has the fields of a struct or receives them. Throws a TypeError if not.
  * @template T
  * @param {string} name
  * @param {T} value

@@ -1,7 +1,7 @@
-// Tests the class Executor and what goes with it: `node executor_tests.mjs MODULE`. The octets are those of
-// docs/PROFILE.md and c/tests/log.c, which Python's struct and zlib made; each refusal, the rule of actions, each wrong
-// argument, random sessions of a board that restarts at any moment, and that each name of the package for Python is
-// there. It ends with 0 where all is as wanted, and with an Error that says what is not.
+// Tests the class Executor and the functions for the ground: `node executor_tests.mjs MODULE`. Covers the octets of
+// docs/PROFILE.md and c/tests/log.c, which Python's struct and zlib made; each refusal; the rule of actions; each wrong
+// argument; random sessions of a board that restarts at any moment; and that each name of Python's package exists.
+// Exits with 0 if all is as expected, and otherwise with an Error that states what is not.
 import assert from 'node:assert/strict';
 import { readFileSync } from 'node:fs';
 import * as sedgechisel from './index.mjs';

@@ -1,5 +1,5 @@
-// The simulated link by the lines of scripts (docs/TCTOOL.md, "Scripts of the simulated link"): lines are read here and
-// answered in the words of `tctool sim`. What happens is the library's.
+// The simulated link, driven by script lines (docs/TCTOOL.md, "Scripts of the simulated link"). This module reads the
+// lines and answers them in the words of `tctool sim`; the library decides what happens.
 import { defaults, lines, numbers as n } from './calls.mjs';
 
 /**
@@ -34,7 +34,7 @@ export function octetsOf(digits) {
 }
 
 /**
- * A number as digits without leading zeros, up to the most; null for anything else.
+ * Returns the number of decimal digits without leading zeros, at most `most`; null for anything else.
  * @param {string | undefined} digits
  * @param {any} most
  * @returns {number | null}

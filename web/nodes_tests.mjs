@@ -1,6 +1,6 @@
-// Tests the classes for JavaScript: `node nodes_tests.mjs MODULE`. A session over both nodes, faults, alerts, records
-// that are kept, iterators, closed nodes, the simulated link, each wrong argument of each method, and that each name of
-// the package for Python is there. It ends with 0 where all is as wanted, and with an Error that says what is not.
+// Tests the classes for JavaScript: `node nodes_tests.mjs MODULE`. Covers a session over both nodes, faults, alerts,
+// kept records, iterators, closed nodes, the simulated link, each wrong argument of each method, and that each name of
+// Python's package exists. Exits with 0 if all is as expected, and otherwise with an Error that states what is not.
 import assert from 'node:assert/strict';
 import { readFileSync } from 'node:fs';
 import { setTimeout } from 'node:timers/promises';
@@ -87,7 +87,7 @@ function directives() {
     assert.equal(link.begun, 'SET_VR');
 }
 
-// After an alert a session is resumed, and a ground that is lost goes on at its record.
+// After an alert a session is resumed, and another ground continues from the record of a lost one.
 function alerts() {
     const ground = new Ground({ timer: 1, limit: 1 });
     ground.initWithoutCheck();
@@ -267,7 +267,7 @@ function texts() {
     for (const number of [7, 8]) assert.equal(new TelemetryFault(number).message, new TmFault(number).message);
 }
 
-// The names that the package for Python has, but for those that it gives up after 0.3.
+// The names of the package for Python, except those that it drops after 0.3.
 function names() {
     const known = { Ground: '_nodes', Spacecraft: '_spacecraft', Link: '_link', Directives: '_calls' };
     for (const [name, file] of Object.entries(known)) {
@@ -280,7 +280,7 @@ function names() {
     }
 }
 
-// The comments of the classes are in the words of JavaScript: of C they name only a call that no class has.
+// The comments of the classes use the words of JavaScript. The only name of C in them is of a call that no class has.
 function comments() {
     for (const file of ['nodes', 'simulated', 'executor', 'values']) {
         const text = readFileSync(new URL(`${file}.mjs`, import.meta.url), 'utf8').replace(/import\('[^']*'\)\.\w+/g, '');

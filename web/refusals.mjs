@@ -1,6 +1,6 @@
 // Tests that each call refuses each wrong argument, and then does not run: `node refusals.mjs MODULE` reads the calls
 // and the structs of the headers from standard input, as web/refusals writes them. Octets, a struct, an element of an
-// array, a field of a struct in a struct: each is tried with values that its C type cannot hold (RangeError), and with
+// array and a field of a nested struct are each tried with values that its C type cannot hold (RangeError), and with
 // values of another kind (TypeError).
 import assert from 'node:assert/strict';
 import { readFileSync } from 'node:fs';
@@ -22,7 +22,7 @@ WebAssembly.instantiate = async (...given) => {
 };
 const sedge = await load(readFileSync(process.argv[2]));
 
-// The wrong values of a C type, each with the error that it is.
+// The wrong values of a C type, each with the error that it must cause.
 function wrongNumbers(type) {
     if (type === 'bool') return NO_BOOLS.map((it) => [it, TypeError]);
     const most = 1n << BITS[type], kind = type === 'uint64_t' ? BigInt : Number;
@@ -39,7 +39,7 @@ function isStruct(type) {
     return type.startsWith('struct ');
 }
 
-// The wrong values of a field of a struct: of its type, or of an array of so many.
+// The wrong values of a struct field, for its type or for an array of `count` elements of that type.
 function wrongFields({ type, count }) {
     const values = isStruct(type) ? wrongObjects(type.slice(7)) : wrongNumbers(type);
     if (count === 0) return values;
@@ -50,7 +50,7 @@ function wrongFields({ type, count }) {
     return [...within(0), ...within(count - 1), ...lengths, ...kinds];
 }
 
-// The fields of a struct; octets that it leads to are one, with their number.
+// The fields of a struct; a pointer to octets and their count are one field.
 function fieldsOf(name) {
     const fields = structs[name];
     return fields.filter((it, k) => !(it.name === 'count' && fields[k - 1]?.type === 'pointer'))
@@ -66,7 +66,7 @@ function wrongObjects(name) {
     return found;
 }
 
-// The parameters as JavaScript has them: of each a value that is taken, and those that are not.
+// The parameters of a call in JavaScript, each with a value that is accepted and the values that are not.
 function parametersOf(given) {
     const found = [];
     for (let k = 0; k < given.length; k++) {

@@ -1,5 +1,6 @@
-// Runs the module of tctool for web/rows: `node web/rows.mjs MODULE`. A line of standard input is a run: its words and
-// its input as base64, and the maximum that a read returns. The answer is a line with the status and what was written.
+// Runs the module of tctool for web/rows: `node web/rows.mjs MODULE`. Each line of standard input describes a run: its
+// arguments and its input as base64, and the maximum that a read returns. The answer is a line with the status and what
+// was written.
 import { openSync, readFileSync, readSync } from 'node:fs';
 import { createInterface } from 'node:readline';
 import { run } from './tctool.mjs';

@@ -1,7 +1,7 @@
-// Both libraries for JavaScript: load(source) returns the calls of c/include/sedgechisel.h and sedgechisel_nodes.h, by
-// their names there, from the module that web/build makes. Octets are a Uint8Array, which a call copies in, and out if
-// it writes there; its length is the number that follows it in C. A struct is an object with its fields; a pointer to a
-// number is an object with a value. A call writes into the objects that are passed to it.
+// Both libraries for JavaScript: load(source) returns the calls of c/include/sedgechisel.h and sedgechisel_nodes.h by
+// their names there, from the module that web/build makes. Octets are a Uint8Array, which a call copies in, and out if it
+// writes them; its length is the number that follows it in C. A struct is an object with the struct's fields, and a
+// pointer to a number is an object with a value. A call writes into the objects that are passed to it.
 import { listOf, numberOf, objectOf, octetsOf } from './arguments.mjs';
 import { calls, numbers, structs, texts } from './calls.mjs';
 
@@ -18,8 +18,8 @@ const WRITE = { 1: (view, at, it) => view.setUint8(at, it), 2: (view, at, it) =>
     4: (view, at, it) => view.setUint32(at, it, true), 8: (view, at, it) => view.setBigUint64(at, it, true) };
 
 // The memory of nodes, and of the arguments of calls: places of 16, 32, 64 .. octets after the module's own memory, with
-// lists of those that are free. The order of a place (its size as a power of 2) is stored by its address: a Map
-// is slow to forget one of many.
+// a list of the free places of each size. The order of a place (its size as a power of 2) is in an array, by the
+// address of the place, because a large Map is slow to delete an entry.
 class Places {
     constructor(memory, begin) {
         this.memory = memory;
@@ -28,7 +28,7 @@ class Places {
         this.orders = new Uint8Array(1 << 16);
     }
 
-    // The address of a place; 0 if there is none.
+    // Returns the address of a free place, or 0 if memory runs out.
     take(count) {
         const order = count <= 16 ? 4 : 32 - Math.clz32(count - 1), size = 2 ** order;
         const at = this.free[order]?.pop() ?? this.end;
@@ -61,7 +61,7 @@ class Places {
     }
 }
 
-// The three functions of sedgechisel_memory.h, as a module of 32 bits calls them.
+// The three functions of sedgechisel_memory.h, with the parameters that a module of 32 bits passes.
 function memoryFunctions(of) {
     const answer = (to, at, align) => {
         const view = new DataView(of.memory.buffer);
@@ -85,7 +85,7 @@ function memoryFunctions(of) {
     };
 }
 
-// What a call is given, in the module's memory: a place for each thing, all in one room.
+// The arguments of a call in the module's memory: one buffer, with a place for each.
 class Given {
     constructor(of, count) {
         this.of = of;
@@ -132,7 +132,7 @@ class Given {
     }
 }
 
-// Reads a value of some kind, a struct into an object.
+// Reads a value of some kind; a struct becomes an object.
 function read(view, kind, at, count, into) {
     if (count > 0) return Array.from({ length: count }, (_, k) => read(view, kind, at + k * sizeOf(kind), 0));
     if (structs[kind]) {
@@ -144,12 +144,12 @@ function read(view, kind, at, count, into) {
     return kind === 'bool' ? number !== 0 : number;
 }
 
-// The octets of a struct or a number.
+// The size of a struct or a number, in octets.
 function sizeOf(kind) {
     return structs[kind]?.size ?? SIZES[kind];
 }
 
-// The octets that an argument takes in the room of a call, or fewer.
+// The most octets that an argument takes in the buffer of a call.
 function roomOf(way, kind, value) {
     if (way === 'value') return 0;
     if (way === 'octets' || way === 'room') return value.length + 16;
@@ -157,14 +157,14 @@ function roomOf(way, kind, value) {
     return octets.reduce((sum, [field]) => sum + (value[field]?.length ?? 0) + 16, sizeOf(kind) + 16);
 }
 
-// An argument as it has to be; a number as the module takes it.
+// Checks an argument, and returns it; a number as the module takes it.
 function argumentOf([name, way, kind], value) {
     if (way === 'value') return numberOf(name, kind, value);
     return way === 'octets' || way === 'room' ? octetsOf(name, value) : objectOf(name, value, way === 'written');
 }
 
-// Puts an argument into the room of a call. Returns the words that the module takes for it, and what copies back that
-// which the call writes.
+// Puts an argument into the buffer of a call. Returns the numbers that the module takes for it, and a function that
+// copies back what the call writes, if it writes the argument.
 function put(of, given, [name, way, kind], value) {
     if (way === 'value') return [[value]];
     if (way === 'octets' || way === 'room') {
@@ -174,19 +174,19 @@ function put(of, given, [name, way, kind], value) {
     const at = given.place(sizeOf(kind)), isStruct = kind in structs;
     if (isStruct) given.write(kind, at, 0, value, name);
     const back = () => {
-        const view = new DataView(of.memory.buffer); // (which the call may have made longer)
+        const view = new DataView(of.memory.buffer); // (the call may have made it longer)
         if (isStruct) read(view, kind, at, 0, value);
         else value.value = read(view, kind, at, 0);
     };
     return [[at], way === 'written' ? back : undefined];
 }
 
-// A call: its arguments are put into a room, and what it wrote is read from there.
+// Makes a call: a function that puts its arguments into a buffer, and reads from the buffer what the call wrote.
 function callOf(of, name, result, parameters) {
     return (...values) => {
         const most = parameters.length;
         if (values.length > most) throw new TypeError(`${name}: ${values.length} arguments instead of ${most}`);
-        const characters = texts[result] ?? 0; // of a text that it returns
+        const characters = texts[result] ?? 0; // of a text that the call returns
         const checked = parameters.map((it, k) => argumentOf(it, values[k]));
         const count = parameters.reduce((sum, [, way, kind], k) => sum + roomOf(way, kind, checked[k]), 32 + characters);
         const given = new Given(of, count);
@@ -202,7 +202,7 @@ function callOf(of, name, result, parameters) {
     };
 }
 
-// An answer as its type has it: WebAssembly returns 32 bits with a sign.
+// Converts an answer to its type: WebAssembly returns 32 bits with a sign.
 function returned(result, answer) {
     if (result === 'bool') return answer !== 0;
     return result === 'uint32_t' ? answer >>> 0 : answer;
@@ -213,7 +213,7 @@ function textAt(memory, at, characters) {
     return String.fromCharCode(...octets.subarray(0, octets.indexOf(0)));
 }
 
-// Makes the calls of a module: of its octets, or as the machine has compiled it.
+// Makes the calls of a module, from its octets or from a compiled module.
 export async function load(source) {
     const of = {};
     const made = await WebAssembly.instantiate(source, { env: memoryFunctions(of) });

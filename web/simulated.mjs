@@ -27,8 +27,8 @@ const REFUSED_BY = { [n.SEDGE_BY_NODE]: LinkFault, [n.SEDGE_BY_SENDER]: CopFault
 /** A simulated link: a ground, a spacecraft with the same parameters, and the frames in transit between them, first in,
  * first out. It keeps the records of its session; each initiation that the ground accepts begins a new one.
  *
- * An event that a node refuses throws the node's fault, as in `Ground` and `Spacecraft`. Any event may also run out of
- * memory and throw a LinkFault, a TelemetryFault or a SimFault 6 or 7 (Memory). Nothing has changed then. */
+ * An event that a node refuses throws the node's fault, as in `Ground` and `Spacecraft`. An event that needs memory may
+ * run out of it, and throw LinkFault 6, TelemetryFault 7 or SimFault 6 (Memory). Nothing has changed then. */
 export class Link extends Directing {
     /**
      * Opens a link with these managed parameters; the others have their defaults.

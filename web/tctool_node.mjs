@@ -4,7 +4,7 @@
 import { existsSync, fstatSync, openSync, readFileSync, readSync, writeSync } from 'node:fs';
 import { run } from './tctool.mjs';
 
-// What a call of the system returns, or minus its error if it fails. If a pipe is not ready, the call is repeated.
+// Returns the result of a system call, or minus its error number if it fails. Repeats the call if a pipe is not ready.
 function tried(call) {
     for (;;) {
         try {
@@ -16,8 +16,8 @@ function tried(call) {
     }
 }
 
-// The arguments of the command line: texts, or octets if one may not be UTF-8. Node turns such octets into U+FFFD; the
-// system (Linux) returns them.
+// Returns the arguments of the command line: texts, or octets if one may not be UTF-8. Node replaces such octets by
+// U+FFFD, so they are read from the system (Linux).
 function words() {
     const texts = process.argv.slice(2);
     const whole = '/proc/self/cmdline';

@@ -1,5 +1,5 @@
-// Tests the module for JavaScript: `node tests.mjs MODULE`. Codecs, both machines, two nodes, memory that is given
-// back, and what is wrong. It ends with 0 where all is as wanted, and with an Error that says what is not.
+// Tests the module for JavaScript: `node tests.mjs MODULE`. Covers codecs, both machines, two nodes, memory that is
+// released, and what is wrong. Exits with 0 if all is as expected, and otherwise with an Error that states what is not.
 import assert from 'node:assert/strict';
 import { readFileSync } from 'node:fs';
 import { load, numbers as n } from './sedgechisel.mjs';
@@ -33,7 +33,7 @@ function packetsThatAreMissing() {
 }
 
 // A board without a record at its first place executes the next command, and the ground reads its status. The octets
-// are worked out by Python's struct and zlib.
+// were computed by Python's struct and zlib.
 function commandsOverRestarts() {
     const place = (octets) => octetsOf(octets + octets), log = {}, content = {}, number = {}, out = new Uint8Array(50);
     const command = octetsOf('1005C02C000A0000012D010203831D43F2');
@@ -83,7 +83,7 @@ function machines() {
     assert.equal(fop.state, n.SEDGE_FOP_S1);
 }
 
-// What an alert says, and by which of two ways a program goes on.
+// What an alert states, and which of the two ways to recover applies.
 function alerts() {
     const all = ['LOCKOUT', 'NNR', 'CLCW', 'SYNCH', 'LIMIT', 'TIMER', 'TERMINATED'];
     for (const [k, name] of all.entries()) {
@@ -96,7 +96,7 @@ function alerts() {
     assert.equal(sedge.sedge_alert_advice(n.SEDGE_NO_ALERT), '?');
 }
 
-// A packet goes up, and the report on it comes down.
+// A packet is sent up, and the CLCW that acknowledges it comes down.
 function nodes() {
     const ground = {}, spacecraft = {}, out = new Uint8Array(2048), count = {}, received = {}, heard = {}, map = {};
     assert.equal(sedge.sedge_ground_open(ground, DEFAULTS), n.SEDGE_NODE_OK);
@@ -146,7 +146,7 @@ function waits(it) {
     return [it.unsent, it.due, it.bypassed, it.ticks, it.count];
 }
 
-// The nodes of a link are read: a packet goes up under sequence control, and another one waits past it.
+// Reads the nodes of a link: a packet is sent under sequence control, and another one waits to be sent by bypass.
 function linked() {
     const sim = {}, reply = {}, ground = {}, board = {}, none = { octets: new Uint8Array(0) };
     assert.equal(sedge.sedge_sim_open(sim, DEFAULTS), n.SEDGE_NODE_OK);
@@ -165,7 +165,7 @@ function linked() {
     assert.equal(sedge.sedge_sim_spacecraft_read(sim, board), n.SEDGE_NODE_NONE);
 }
 
-// What was opened and closed many times takes no more memory than once.
+// Opening and closing nodes many times takes no more memory than once.
 function memory() {
     const config = { ...DEFAULTS, max_packet: 65542, ready_slots: 64 };
     for (let k = 0; k < 2000; k++) {

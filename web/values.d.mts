@@ -114,7 +114,7 @@ export class ConfigFault extends Fault {
     constructor(number: number);
 }
 /** Why the sender has given up: its `number`, its `name` as tctool prints it, what to do next (`advice`), and whether it
- * shows that a condition of the promises is broken. */
+ * shows that a condition of the promises is broken (`showsABrokenCondition`). */
 export class Alert {
     /** @param {number} number */
     constructor(number: number);
@@ -124,7 +124,7 @@ export class Alert {
     showsABrokenCondition: boolean;
     toString(): string;
 }
-/** A communications link control word (232.0-B-4, 4.2): the report on the receiver. */
+/** A communications link control word (232.0-B-4, 4.2), which reports on the receiver. */
 export class Clcw {
     /**
      * Reads four octets as a CLCW.

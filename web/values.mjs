@@ -1,5 +1,5 @@
 // What the nodes for JavaScript share: the calls of the loaded module, faults, alerts, CLCWs, and what became of
-// received octets. What numbers mean, and how they are called, is web/meanings.mjs, which web/bindings makes.
+// received octets. The meanings and names of numbers are in web/meanings.mjs, which web/bindings generates.
 import { numberOf, objectOf } from './arguments.mjs';
 import { meanings, members, ranges } from './meanings.mjs';
 
@@ -138,7 +138,7 @@ export class ConfigFault extends Fault {
 // ---- Alerts. ----
 
 /** Why the sender has given up: its `number`, its `name` as tctool prints it, what to do next (`advice`), and whether it
- * shows that a condition of the promises is broken. */
+ * shows that a condition of the promises is broken (`showsABrokenCondition`). */
 export class Alert {
     /** @param {number} number */
     constructor(number) {
@@ -166,7 +166,7 @@ export function alertOf(number) {
 const FLAGS = { retransmit: 0x08, wait: 0x10, lockout: 0x20, noBitLock: 0x40, noRf: 0x80 };
 const FIELDS = ['status', 'vcid', 'flags', 'farmB', 'value'];
 
-/** A communications link control word (232.0-B-4, 4.2): the report on the receiver. */
+/** A communications link control word (232.0-B-4, 4.2), which reports on the receiver. */
 export class Clcw {
     /**
      * @param {{ status?: number, vcid?: number, flags?: number, farmB?: number, value?: number }} [fields] those that are
