@@ -1,6 +1,6 @@
 // Both libraries for JavaScript: load(source) returns the calls of c/include/sedgechisel.h and sedgechisel_nodes.h by
-// their names there, from the module that web/build makes. Octets are a Uint8Array, which a call copies in, and out if it
-// writes them; its length is the number that follows it in C. A struct is an object with the struct's fields, and a
+// their names there, from the module that web/build makes. Octets are a Uint8Array, which a call copies in, and out if
+// it writes them; its length is the number that follows it in C. A struct is an object with the struct's fields, and a
 // pointer to a number is an object with a value. A call writes into the objects that are passed to it.
 import { listOf, numberOf, objectOf, octetsOf } from './arguments.mjs';
 import { calls, numbers, structs, texts } from './calls.mjs';

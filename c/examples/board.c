@@ -14,16 +14,16 @@
 enum { SPACECRAFT = 42, TC_CHANNEL = 2, WIDTH = 32, TM_CHANNEL = 1, TM_LENGTH = 64, ANSWER_APID = 3 };
 enum { MAPS = 2, UNITS = 3, SLOTS_OF_A_PACKET = 2 };
 
-/* What comes in a slot is a frame of at most 1,024 octets, and fill to the end of a code block of 7. Without its
- * header, the segment header and the FECF the frame has at most 1,016 octets of data. A segment makes one packet whole,
- * or has whole packets in its data: a unit of either. */
+/* A slot contains a frame of at most 1,024 octets, and fill to the end of a code block of 7. Without its header, the
+ * segment header and the FECF, the frame has at most 1,016 octets of data. A segment completes one packet, or contains
+ * whole packets in its data. Either is a unit. */
 enum {
     FRAME = 1024, SLOT = FRAME + 6, DATA = FRAME - 5 - 1 - 2, MAX_PACKET = 2048,
     UNIT = MAX_PACKET > DATA ? MAX_PACKET : DATA
 };
 
-/* The answer to a packet has its first four octets. At most two packets are executed in a slot; the telemetry frame of
- * the slot takes both answers whole, after at most 6 octets of an idle packet. */
+/* The answer to a packet contains the packet's first four octets. At most two packets are executed in a slot; the
+ * telemetry frame of the slot takes both answers whole, after at most 6 octets of an idle packet. */
 enum { ANSWER = 6 + 4, ANSWERS = 2 * ANSWER };
 typedef char a_frame_takes_the_answers[ANSWERS + 6 <= TM_LENGTH - 12 ? 1 : -1];
 
@@ -43,12 +43,12 @@ static struct sedge_farm farm;
 static struct sedge_tm_builder builder;
 static uint8_t answers[ANSWERS];
 
-/* What cannot be refused was refused: a struct is damaged, as by a bit that flipped. Here a board restarts. */
+/* A call that cannot be refused was refused: a struct is damaged, for example by a bit flip. Here a board restarts. */
 static void sure(uint8_t fault) {
     if (fault != SEDGE_OK) abort();
 }
 
-/* Here a board hands the packet to the application of its APID. */
+/* Here a board passes the packet to the application of its APID. */
 static void execute(const char *how, uint8_t map, const uint8_t *octets, size_t count) {
     static unsigned sequence;
     struct sedge_packet answer = {ANSWER_APID, (uint16_t)(sequence++ % 16384), SEDGE_PACKET_TELEMETRY, 0, 3};
@@ -59,14 +59,14 @@ static void execute(const char *how, uint8_t map, const uint8_t *octets, size_t 
     sure(sedge_tm_builder_queue(&builder, packet, total, answers, sizeof answers));
 }
 
-/* Where an open MAP stands; MAPS for one that is closed. */
+/* Returns the index of an open MAP, or MAPS for a closed one. */
 static int place_of(uint8_t map) {
     int at = 0;
     while (at < MAPS && map_ids[at] != map) at++;
     return at;
 }
 
-/* A segment was accepted: what it makes whole waits. There is room, or it were not accepted. */
+/* Takes an accepted segment: what it completes waits. There is room, because otherwise it is not accepted. */
 static void take_segment(const struct sedge_tc_frame *frame, const uint8_t *data, size_t count) {
     int at = place_of(frame->map);
     struct unit *unit = &units[(oldest + waiting) % UNITS];
@@ -81,7 +81,7 @@ static void take_segment(const struct sedge_tc_frame *frame, const uint8_t *data
     waiting++;
 }
 
-/* Data past the sequence control are one packet in one segment, and are executed at once. */
+/* Data sent by bypass must be one packet in one segment, and are executed at once. */
 static void take_bypass(const struct sedge_tc_frame *frame, const uint8_t *data, size_t count) {
     size_t total;
     if (place_of(frame->map) == MAPS || frame->flags != SEDGE_SEGMENT_ALONE) return;
@@ -89,7 +89,7 @@ static void take_bypass(const struct sedge_tc_frame *frame, const uint8_t *data,
     execute("past the sequence control", frame->map, data, count);
 }
 
-/* What came up in a slot: a frame of this spacecraft and channel with fill after it, or anything else. */
+/* Takes what arrived in a slot: a frame of this spacecraft and channel with fill after it, or anything else. */
 static void receive(const uint8_t *octets, size_t count) {
     struct sedge_tc_frame frame;
     struct sedge_part data;
@@ -121,7 +121,7 @@ static void execute_next(void) {
     sure(sedge_farm_released(&farm));
 }
 
-/* The telemetry frame of a slot, with the report. Here a board sets the flags of its radio in the control word. */
+/* Sends the telemetry frame of a slot, with the CLCW. Here a board sets the flags of its radio in the CLCW. */
 static void send_telemetry(void) {
     uint8_t word[4], frame[TM_LENGTH];
     struct sedge_clcw clcw;
@@ -133,7 +133,7 @@ static void send_telemetry(void) {
     fflush(stdout);
 }
 
-/* Reads a record: how many octets it has, -1 at the end, or -2 where it is cut off or too long. */
+/* Reads a record. Returns its number of octets, -1 at the end, or -2 if it is cut off or too long. */
 static int read_record(uint8_t *octets) {
     int high = getchar(), low = getchar(), count = high * 256 + low;
     if (high == EOF) return -1;

@@ -21,7 +21,7 @@ static void tell(const char *what, struct sedge_text name) {
     printf("%s: %s\n", what, name.text);
 }
 
-/* What came of a frame, and the report. */
+/* Takes a frame, and writes what became of it and the CLCW. */
 static int receive(struct sedge_spacecraft *spacecraft, const uint8_t *octets, size_t count) {
     struct sedge_received received;
     struct sedge_spacecraft_reading read;
@@ -39,7 +39,7 @@ int main(void) {
     size_t held = 0, more, total;
     struct sedge_spacecraft spacecraft = {0};
     struct sedge_config config;
-    /* MAPs 4 and 5 are open. The window is the ground's, and yet no more than half of the width. */
+    /* MAPs 4 and 5 are open. Only the ground uses the window, but it must be at most half the width here too. */
     sedge_config_default(&config);
     config.width = 10, config.window = 5, config.max_packet = 4096, config.maps = 3 << 4, config.ready_slots = 2;
     if (sedge_spacecraft_open(&spacecraft, &config) != SEDGE_NODE_OK) return 1;

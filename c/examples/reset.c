@@ -11,13 +11,13 @@ enum { SCID = 1, CHANNEL = 2, MAP = 4, COMMANDS = 8, ROUND_TRIP = 2, RESET_AT = 
 static struct sedge_config config;
 static struct sedge_ground ground;
 static struct sedge_spacecraft spacecraft;
-/* What the spacecraft keeps over a restart, and says of itself. */
+/* What the spacecraft keeps over a restart, and states in telemetry. */
 static uint8_t boots, executed;
-/* On the ground: the commands that the sessions before this one have brought on board, the turns since something was
- * sent or the session ended, the boot count that was last heard, and a report that was made in silence. */
+/* On the ground: how many commands earlier sessions have brought on board, the turns since something was sent or the
+ * session ended, the boot count that was last heard, and the value of a CLCW that was made in silence. */
 static uint8_t done, quiet, boots_heard, value;
-/* Whether there is such a report; whether the session that ended says nothing of what is on board; and whether the
- * spacecraft has said, with the command of the session on board, that V(R) is V(S). */
+/* Whether there is such a value; whether the session that ended shows nothing of what is on board; and whether a CLCW
+ * has shown, with the command of the session on board, that V(R) is V(S). */
 static bool has_value, is_lost = true, is_open;
 
 static void write_packet(uint8_t *packet, uint8_t type, uint8_t one, uint8_t two) {
@@ -27,8 +27,8 @@ static void write_packet(uint8_t *packet, uint8_t type, uint8_t one, uint8_t two
 
 /* ---- On board. ---- */
 
-/* The numbers begin anew, and what was not executed is gone. A frame of the spacecraft's own whose number is in neither
- * window takes the receiver to Lockout. */
+/* The numbers begin at 0 again, and what was not executed is lost. The spacecraft passes its receiver a frame of its
+ * own, whose number is in neither window: this puts the receiver into Lockout. */
 static bool restart(void) {
     const struct sedge_tc_frame own = {SCID, CHANNEL, SEDGE_TC_AD, 128, SEDGE_SEGMENT_ALONE, 0, 0, 0};
     const uint8_t data = 0;
@@ -42,7 +42,7 @@ static bool restart(void) {
            received.verdict == SEDGE_OUTSIDE;
 }
 
-/* A command is executed in each turn; the next one has to be that which was wanted. */
+/* Executes a command in each turn; each must be the next one in sequence. */
 static bool execute(void) {
     uint8_t map, packet[16];
     size_t count;
@@ -79,8 +79,8 @@ static void see(uint8_t alert) {
     printf("resume: %d\n", sedge_ground_resume(&ground, 0, &whole));
 }
 
-/* Begins a session by a report that was made after the silence, and by what telemetry said after it. Where both speak
- * of the session that ended, they agree. */
+/* Begins a session with the value of a CLCW that was made after the silence, and with the count in later telemetry. If
+ * both are about the session that ended, they agree. */
 static bool begin(uint8_t said) {
     uint64_t whole;
     if (!is_lost) {
@@ -96,8 +96,8 @@ static bool begin(uint8_t said) {
     return true;
 }
 
-/* What a report says that was made one round trip after the last frame was sent: in S6 the value of the next session,
- * else whether its command is on board. */
+/* Uses a CLCW that was made one round trip after the last frame was sent. In S6 it has the value for the next session;
+ * otherwise it shows whether the session's command is on board. */
 static void hear_report(const struct sedge_clcw *report, const struct sedge_ground_reading *reading) {
     const uint8_t flags = SEDGE_CLCW_LOCKOUT | SEDGE_CLCW_WAIT | SEDGE_CLCW_RETRANSMIT;
     if (reading->state != SEDGE_FOP_S6) {
@@ -107,7 +107,7 @@ static void hear_report(const struct sedge_clcw *report, const struct sedge_grou
     }
 }
 
-/* Hears a telemetry frame: its report, and its packet. Where the boot count has changed, the session ends. */
+/* Takes a telemetry frame: its CLCW, and its packet. If the boot count has changed, the session ends. */
 static bool hear(const uint8_t *frame, size_t count) {
     struct sedge_heard heard;
     struct sedge_ground_reading reading;
@@ -124,15 +124,15 @@ static bool hear(const uint8_t *frame, size_t count) {
         stop();
         return reading.state == SEDGE_FOP_S6 || sedge_ground_terminate(&ground) == SEDGE_OK;
     }
-    if (has_value) return begin(packet[7]); /* (this frame was made after that report) */
+    if (has_value) return begin(packet[7]); /* (this frame was made after that CLCW) */
     if (heard.report != SEDGE_REPORT_USED || quiet <= ROUND_TRIP) return true;
     if (sedge_ground_clcw_in(&ground, frame, count, &report) != SEDGE_NODE_OK) return false;
     hear_report(&report, &reading);
     return true;
 }
 
-/* Submits what is not submitted in this session, once its command is on board, and sends what may be sent: nothing
- * during the silence, in S6. */
+/* Submits what is not yet submitted in this session, once the session's command is on board, and sends what may be
+ * sent. During the silence, in S6, it sends nothing. */
 static bool send(void) {
     struct sedge_ground_reading reading;
     struct sedge_received received;

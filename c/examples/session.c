@@ -11,7 +11,7 @@ static struct sedge_farm farm;
 static uint8_t waiting, sent[256];
 static unsigned submitted, frames, lost, handed_on, acknowledged;
 
-/* Whether the link loses what is on it now (a generator of Lehmer's, whose numbers are 31 bits). */
+/* Returns whether the link loses what is in transit now (a Lehmer generator of numbers of 31 bits). */
 static bool is_lost(void) {
     static uint64_t state = 1;
     state = state * 48271 % 2147483647;
@@ -19,7 +19,7 @@ static bool is_lost(void) {
     return state % 3 == 0;
 }
 
-/* The frame on its way up, and what the spacecraft makes of it. */
+/* Carries a frame up the link, and gives it to the receiver if it arrives. */
 static int carry_up(uint8_t n, uint8_t unit) {
     struct sedge_tc_frame frame = {1, CHANNEL, SEDGE_TC_AD, n, SEDGE_SEGMENT_ALONE, 4, 0, 0};
     struct sedge_part data;
@@ -33,7 +33,7 @@ static int carry_up(uint8_t n, uint8_t unit) {
     return octets[data.from] != handed_on++;
 }
 
-/* The report on its way down, and what the sender makes of it. */
+/* Carries a CLCW down the link, and gives it to the sender if it arrives. */
 static int carry_down(void) {
     struct sedge_clcw word;
     uint8_t octets[4], released;

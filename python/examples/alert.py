@@ -1,6 +1,6 @@
 """Sessions over a link with a delay, which loses frames: each packet is delivered once. The steps after an alert are
-those of docs/CONTROL.md, "After an alert", but for the boot counter: no node restarts here. A program for a real link
-looks at it before it resumes, as asyncio_ground.py does.
+those of docs/CONTROL.md, "After an alert", except for the boot counter: no node restarts here. A program for a real
+link looks at the boot counter before it resumes, as asyncio_ground.py does.
 Run it by PYTHONPATH=DIR/lib/python python3 python/examples/alert.py, or paste it into a notebook."""
 import collections
 import random
@@ -24,8 +24,8 @@ def arrived(way):
         yield way.popleft()[1]
 
 
-# The tick of the last alert, since which nothing is pulled; and how many packets the sessions before this one have
-# brought on board, which is the number of the first packet of this one.
+# The tick of the last alert, since which nothing is pulled; and how many packets earlier sessions have brought on
+# board, which is the number of this session's first packet.
 now, stopped, done = 0, 0, 0
 with sc.Ground(config) as ground, sc.Spacecraft(config) as spacecraft:
     ground.init_unlock()  # V(S) and V(R) of new nodes are 0
@@ -39,8 +39,8 @@ with sc.Ground(config) as ground, sc.Spacecraft(config) as spacecraft:
         for frame in arrived(down):
             heard = ground.telemetry(frame)
             alert = alert or heard.alert
-            # What was pulled last has arrived or is lost DELAY later, and this report was made DELAY ago. So it was
-            # made with nothing on its way up if it comes more than a round trip later.
+            # What was pulled last has arrived or is lost DELAY later, and this CLCW was made DELAY ago. So nothing was
+            # in transit on the uplink then if the CLCW arrives more than a round trip after the last pull.
             is_quiet = ground.state == sc.State.S6 and not alert and now - stopped > ROUND_TRIP
             if is_quiet and heard.report == sc.Report.USED:
                 value = ground.clcw_in(frame).value

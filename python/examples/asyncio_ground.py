@@ -1,8 +1,8 @@
-"""A ground by asyncio on bare control words, and on a loopback socket a front end with a spacecraft after it. Both ways
-are slow and lose frames; for a while the link is dark, and once the spacecraft restarts. Each command is executed once,
-in order: each session begins by the six steps of docs/CONTROL.md, "The steps". Control
-words and housekeeping come in one ordered stream, so housekeeping that comes after a word was made after it. Where they
-come by two ways, that has to be known otherwise.
+"""A ground with asyncio on bare CLCWs, with a front end on a loopback socket and a spacecraft behind it. Both ways are
+slow and lose frames; for a while the link is dark, and once the spacecraft restarts. Each command is executed once,
+in order: each session begins by the six steps of docs/CONTROL.md, "The steps". CLCWs and housekeeping arrive in one
+ordered stream, so housekeeping that arrives after a CLCW was made after it. If they arrive by two paths, a program must
+learn this in another way.
 Run it by PYTHONPATH=DIR/lib/python python3 python/examples/asyncio_ground.py."""
 import asyncio
 import collections
@@ -11,14 +11,14 @@ import struct
 
 import sedgechisel as sc
 
-TICK, REPORT, DELAY = 0.010, 0.005, 0.015  # in seconds: the ground's clock, the time between control words, the way
+TICK, REPORT, DELAY = 0.010, 0.005, 0.015  # in seconds: the ground's clock, the time between CLCWs, the delay
 ROUND_TRIP = 25  # in ticks, and longer than the longest one
 COMMANDS, MAP = 300, 4
 config = sc.Config(scid=42, window=20, limit=3, timer=12)
 chance = random.Random(7)
 
-# What comes down: a letter, then a control word, or what housekeeping says: how often the spacecraft has begun, and the
-# number of commands that it has executed.
+# What arrives on the ground: a letter, then a CLCW or housekeeping. Housekeeping states how often the spacecraft has
+# restarted, and how many commands it has executed.
 WORD, HOUSEKEEPING, SAID = b"C", b"H", struct.Struct(">II")
 
 
@@ -33,11 +33,11 @@ class Station:
         self.first = 0  # the command that is submission 0 of this session
         self.silence = 0  # the ticks since a frame was pulled
         self.stopped = True  # nothing is pulled until a session begins
-        self.is_set = False  # whether the spacecraft has said, with its command on board, that V(R) is V(S)
-        self.is_open = False  # whether no restart was seen since either: nothing is submitted before
-        self.is_known = False  # whether the session that ended says what is on board
-        self.word = None  # a report that was made when nothing was on its way up
-        self.has_disagreed = False  # whether telemetry did not agree with what such a report says is on board
+        self.is_set = False  # whether a CLCW has shown, with the session's command on board, that V(R) is V(S)
+        self.is_open = False  # whether no restart was seen since then either: nothing is submitted before
+        self.is_known = False  # whether the session that ended shows what is on board
+        self.word = None  # a CLCW that was made when nothing was in transit on the uplink
+        self.has_disagreed = False  # whether telemetry did not agree with what such a CLCW shows to be on board
         self.boots, self.executed = None, 0
         self.alerts, self.done = set(), asyncio.Event()
 
@@ -59,26 +59,26 @@ class Station:
         if not self.stopped:
             self.is_set = word.value == self.ground.vs and not (word.lockout or word.wait or word.retransmit)
         elif word.wait:
-            self.silence = 0  # the reports before the wait flag is gone say otherwise
+            self.silence = 0  # CLCWs made before the wait flag is cleared show something else
         else:
             self.word, self.is_known = word, self.is_known and not word.lockout
 
     def hears_housekeeping(self, boots, executed):
-        if self.boots != boots:  # it has restarted, or nothing was heard of it before
+        if self.boots != boots:  # the spacecraft has restarted, or nothing was heard of it before
             if self.ground.state != sc.State.S6:
                 self.ground.terminate()
             self.stops(False)
         self.boots, self.executed = boots, executed
-        if self.word:  # it came before, and no restart was between
+        if self.word:  # the CLCW arrived before this, with no restart in between
             self.begins(self.word.value)
-        elif self.is_set:  # so too since the command of the session arrived
+        elif self.is_set:  # nor has it restarted since the session's command arrived
             self.is_open = True
         if executed == len(self.commands):
             self.done.set()
 
     def begins(self, value):
-        """The next session. Where the last one does not say what is on board, the spacecraft's telemetry does; where it
-        does, both agree, since the spacecraft has executed all that was ready."""
+        """Begins the next session. If the last one does not show what is on board, the spacecraft's telemetry does. If
+        it does, both agree, because the spacecraft has executed all that was ready."""
         known = self.ground.known_on_board(value) if self.is_known else None
         if self.ground.vs == self.ground.nn != value:
             known = None  # nothing was unacknowledged, and V(R) is another number
@@ -125,7 +125,7 @@ class Station:
 
 
 class Way:
-    """A direction of the link: what goes by it comes later, in order, or is lost."""
+    """A direction of the link: what is sent arrives later, in order, or is lost."""
 
     def __init__(self, loop, deliver):
         self.loop, self.deliver, self.queue, self.last, self.is_dark = loop, deliver, collections.deque(), 0, False
@@ -138,7 +138,7 @@ class Way:
 
 
 class FrontEnd:
-    """What is on the link for a ground: ways up and down, and the spacecraft, which has the commands that it executed."""
+    """What a ground sees of the link: both directions, and the spacecraft with the commands that it executed."""
 
     def __init__(self, reader, writer):
         self.reader, self.writer = reader, writer
@@ -147,14 +147,14 @@ class FrontEnd:
         self.up, self.down = Way(loop, lambda frame: self.spacecraft.receive(frame)), Way(loop, writer.write)
 
     def restart(self):
-        """A new node, which has nothing of the old one. It begins in Lockout, so that its reports are not believed."""
+        """Opens a new node, with nothing of the old one. It begins in Lockout, so that its CLCWs are not believed."""
         self.spacecraft.close()
         self.spacecraft, self.boots = sc.Spacecraft(config), self.boots + 1
         outside = sc.TcFrame(scid=42, vcid=2, n=128, flags=sc.Segment.ALONE, map=MAP)
         self.spacecraft.receive(outside.encode(b"."))
 
     async def flies(self):
-        dark, turn = 120, 0  # how many of the reports the link will be dark for
+        dark, turn = 120, 0  # for how many CLCWs the link will be dark
         while True:
             await asyncio.sleep(REPORT)
             for _, packet in self.spacecraft.packets():

@@ -1,5 +1,5 @@
-"""A ground is lost while four frames are on their way, of which the last one is lost too. Another is opened at the record
-that was stored of it before each frame went out, and goes on as after an alert (docs/CONTROL.md, "The ground fails
+"""A ground is lost while four frames are in transit; the last of these is lost too. Another ground is opened from the
+record that was stored before each frame was sent, and continues as after an alert (docs/CONTROL.md, "The ground fails
 over"). The link has no delay.
 Run it by PYTHONPATH=DIR/lib/python python3 python/examples/failover.py."""
 import sedgechisel as sc
@@ -14,10 +14,10 @@ with sc.Spacecraft() as spacecraft:
         for packet in packets:
             ground.submit(4, packet)
         for number, frame in zip(range(4), ground.frames()):
-            stored = ground.kept  # after the pull, and before the frame goes out
+            stored = ground.kept  # after the pull, and before the frame is sent
             if number < 3:
                 spacecraft.receive(frame)
-    # The ground is lost. (Here a round trip goes by, in which nothing is pulled.)
+    # The ground is lost. (Here a round trip passes, in which nothing is pulled.)
     with sc.Ground(kept=stored) as ground:
         word = ground.telemetry(spacecraft.telemetry_frame()).word  # made after that
         done = ground.resume(word.value) if word else 0

@@ -1,7 +1,7 @@
-"""Nine packets are sent and lost, and the spacecraft restarts: its first report acknowledges six of them, with no alert.
-The program sees the restart by the boot counter in telemetry, which says too that no command was executed. So all nine
-are sent again, by the steps of docs/CONTROL.md. No frame of the old session is on its way here, so the new receiver may
-begin Open; and the link has no delay, so the steps are short.
+"""Nine packets are sent and lost, and the spacecraft restarts: its first CLCW acknowledges six of them, with no alert.
+The program sees the restart by the boot counter in telemetry, which also states that no command was executed. So all
+nine are resubmitted, by the steps of docs/CONTROL.md. No frame of the old session is in transit here, so the new
+receiver may begin Open; and the link has no delay, so the steps are short.
 Run it by PYTHONPATH=DIR/lib/python python3 python/examples/reset.py."""
 from typing import NamedTuple
 
@@ -17,7 +17,7 @@ class Said(NamedTuple):
 
 
 def hear(ground: sc.Ground, spacecraft: sc.Spacecraft, boots: int) -> Said:
-    """A telemetry frame comes down, with a CLCW and a packet that says this of the spacecraft."""
+    """Carries a telemetry frame down, with a CLCW and a packet that states this of the spacecraft."""
     spacecraft.telemetry(sc.Packet(apid=6).encode(bytes([boots, 0])))
     heard = ground.telemetry(spacecraft.telemetry_frame())
     packet = list(ground.packets())[-1]
@@ -38,7 +38,7 @@ with sc.Ground() as ground:
         print("acknowledged:", ground.acknowledged_whole, "alert:", said.heard.alert.name)
         print("boot counter:", before.boots, "and then:", said.boots, "on board:", spacecraft.ready)
         ground.terminate()  # so nothing of the old session counts
-        # (Here a round trip goes by, in which nothing is pulled.)
+        # (Here a round trip passes, in which nothing is pulled.)
         word = hear(ground, spacecraft, 2).heard.word  # a CLCW that is made then
         after = hear(ground, spacecraft, 2)  # telemetry that is made after it
         if after.boots != said.boots or not word:

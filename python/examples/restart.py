@@ -1,18 +1,18 @@
-"""A spacecraft is restarted on purpose, and goes on with the four numbers that were kept of it, so the ground sees no
-gap in telemetry (docs/CONTROL.md, "After a reset").
+"""A spacecraft is restarted on purpose, and continues with its four kept numbers, so the ground sees no gap in
+telemetry (docs/CONTROL.md, "After a reset").
 Run it by PYTHONPATH=DIR/lib/python python3 python/examples/restart.py."""
 import sedgechisel as sc
 
 
 def hear(ground: sc.Ground, spacecraft: sc.Spacecraft, boots: int) -> tuple[sc.Heard, int]:
-    """A telemetry frame comes down. A packet in it has the boot counter."""
+    """Carries a telemetry frame down. A packet in it has the boot counter."""
     spacecraft.telemetry(sc.Packet(apid=6).encode(bytes([boots])))
     heard = ground.telemetry(spacecraft.telemetry_frame())
     return heard, [packet[6] for packet in ground.packets()][-1]
 
 
 def deliver(ground: sc.Ground, spacecraft: sc.Spacecraft, boots: int, count: int) -> None:
-    """A session by the steps of docs/CONTROL.md, where nothing is on its way. The boot counter has to be this one."""
+    """Begins a session by the steps of docs/CONTROL.md, with nothing in transit. The boot counter must be this one."""
     heard, before = hear(ground, spacecraft, boots)
     _, after = hear(ground, spacecraft, boots)
     if not (before == after == boots and heard.word):
@@ -30,7 +30,7 @@ def deliver(ground: sc.Ground, spacecraft: sc.Spacecraft, boots: int, count: int
             spacecraft.receive(frame)
         hear(ground, spacecraft, boots)
     ground.terminate()
-    # (Here a round trip goes by, in which nothing is pulled.)
+    # (Here a round trip passes, in which nothing is pulled.)
     print(len(list(spacecraft.packets())), "delivered")
 
 

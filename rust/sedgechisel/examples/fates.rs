@@ -1,6 +1,6 @@
-//! What becomes of each command, by the number of its submission, on bare control words. A spacecraft stands where the
-//! front end is. In the seconds 3 to 6 no word comes down, so that the sender gives up what is on board; nothing
-//! restarts (docs/CONTROL.md, "What became of each command", has the same in Python, and the lines that it writes).
+//! Shows what becomes of each command, by the number of its submission, on bare CLCWs. A spacecraft stands in for the
+//! front end. In the seconds 3 to 6 no CLCW arrives, so the sender gives up commands that are on board; nothing
+//! restarts. (docs/CONTROL.md, "What became of each command", has the same program in Python, and its output.)
 use sedgechisel::{Clcw, Config, Ground, HeardReport, Packet, PacketKind, SequenceFlags};
 use sedgechisel::{Spacecraft, TcFrame};
 
@@ -16,7 +16,7 @@ fn main() -> Result<(), Box<dyn std::error::Error>> {
     let config = Config { scid: 42, vcid: 2, window: 2, limit: 1, timer: 3, ..Config::default() };
     let (mut ground, mut board) = (Ground::new(&config)?, Spacecraft::new(&config)?);
     let (mut room, mut frame) = ([0; 64], [0; TcFrame::LONGEST]);
-    // Of all commands; the first command of this session; when it was given up.
+    // The fates of all commands; the first command of this session; when the sender gave up.
     let (mut fates, mut first, mut stopped) = (["waits"; 5], 0, None);
     ground.init_set_vr(0)?;
     for second in 1..20 {
@@ -29,7 +29,7 @@ fn main() -> Result<(), Box<dyn std::error::Error>> {
                 board.receive(octets)?;
             }
         }
-        // In the seconds 3 to 6 no word comes down.
+        // In the seconds 3 to 6 no CLCW arrives.
         if !(3..=6).contains(&second) {
             let word = board.control_word().encode()?;
             let heard = ground.clcw(&word);

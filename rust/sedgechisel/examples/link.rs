@@ -1,7 +1,7 @@
-//! A session over both nodes and a link that loses frames: packets are submitted as the queue has room, and each round is
-//! a tick of the clock. After an alert the ground resumes by a report, which says how many packets are on board: the new
-//! session submits the others alone, so that each packet is delivered once. No node restarts here. A program for a real
-//! link looks at a boot counter before it resumes, as the example `select` does.
+//! A session over both nodes and a link that loses frames: packets are submitted as the queue has room, and each round
+//! is a tick of the clock. After an alert the ground resumes with the value of a CLCW, which shows how many packets are
+//! on board. The new session submits only the others, so each packet is delivered once. No node restarts here. A
+//! program for a real link looks at a boot counter before it resumes, as the example `select` does.
 
 use sedgechisel::{Alert, Clcw, Config, FopState, Ground, Heard, HeardReport, Spacecraft, TcFrame, TmFrame};
 use std::error::Error;
@@ -23,11 +23,11 @@ impl Link {
 }
 
 fn main() -> Result<(), Box<dyn Error>> {
-    // A report is back within the round in which the frame was sent, so a timer of 3 ticks is long enough.
+    // A CLCW arrives in the round in which the frame was sent, so a timer of 3 ticks is long enough.
     let config = Config { window: 4, limit: 2, timer: 3, queue_slots: 2, ..Config::default() };
     let (mut ground, mut spacecraft) = (Ground::new(&config)?, Spacecraft::new(&config)?);
     let mut link = Link { frames: 0 };
-    // How many packets the sessions before this one have brought on board.
+    // How many packets earlier sessions have brought on board.
     let mut done = 0;
     ground.init_unlock()?;
     for round in 1..=100 {
@@ -49,8 +49,8 @@ fn main() -> Result<(), Box<dyn Error>> {
             println!("round {round}: all are acknowledged");
             return Ok(());
         }
-        // The report of this round was made when all frames had arrived or were lost: nothing was on its way up. An older
-        // one would say too little, and what was accepted since would be sent again.
+        // The CLCW of this round was made when all frames had arrived or were lost: nothing was in transit on the
+        // uplink. An older one would show too little, and what was accepted since would be resubmitted.
         if let (FopState::S6, Some(vr)) = (ground.state(), value) {
             done += ground.resume(vr)?;
             let more = done - acknowledged;
@@ -75,7 +75,7 @@ fn carry_up(ground: &mut Ground, spacecraft: &mut Spacecraft, link: &mut Link) -
     Ok(())
 }
 
-/// Carries a report down: its value, where it arrives, and why the sender has given up, if it has.
+/// Carries a CLCW down. Returns its value, if it arrives, and why the sender has given up, if it has.
 fn carry_down(
     ground: &mut Ground, spacecraft: &mut Spacecraft, link: &mut Link,
 ) -> Result<(Option<u8>, Option<Alert>), Box<dyn Error>> {
@@ -90,7 +90,7 @@ fn carry_down(
     }
 }
 
-/// The value of the report in a telemetry frame: V(R), as it was on board.
+/// Returns the value of the CLCW in a telemetry frame: V(R), as it was on board.
 fn value_of(octets: &[u8]) -> Result<u8, Box<dyn Error>> {
     Ok(Clcw::decode(&TmFrame::decode(octets, octets.len())?.ocf)?.value)
 }

@@ -1,6 +1,6 @@
-//! Plays a script of the simulated link with the crate sedgechisel, and writes the lines of `tctool sim`: `play link`
-//! with its simulated link; `play nodes` with its two nodes and a link that is here, without the lines of `show`. The
-//! script is standard input. It is one that tests/session/script wrote: nothing of it is unreadable.
+//! Runs a script of the simulated link with the crate sedgechisel, and writes the lines of `tctool sim`: `play link`
+//! with its simulated link; `play nodes` with its two nodes and a link of this program, without the lines of `show`.
+//! The script is standard input. tests/session/script wrote it, so no line of it is unreadable.
 
 use sedgechisel::*;
 use std::collections::VecDeque;
@@ -9,10 +9,10 @@ use std::error::Error;
 use std::fmt::Display;
 use std::io::{self, BufRead, BufWriter, Write};
 
-/// The line of an event, or of why it is refused.
+/// The answer to an event, or why it is refused.
 type Answer = Result<String, String>;
 
-/// What plays the events: two nodes, or a simulated link.
+/// What runs the events: two nodes, or a simulated link.
 trait Ends {
     fn calls(&mut self, words: &[&str]) -> Answer;
     fn send(&mut self) -> Answer;
@@ -70,7 +70,7 @@ struct Nodes {
     down: VecDeque<Vec<u8>>,
 }
 
-/// The number and the name of a fault, which its text begins with.
+/// The number and the name of a fault, with which its text begins.
 fn refused(fault: impl Display) -> String {
     let text = fault.to_string();
     format!("refused {}", text.split(':').next().unwrap_or(&text))
@@ -101,7 +101,7 @@ fn packet_text(taken: Option<(u8, Vec<u8>)>) -> String {
     taken.map_or("nothing".into(), |(map, packet)| format!("packet {map} {}", digits_of(&packet)))
 }
 
-/// The octets that arrive of the first frame on its way: its own, or those of a damage; none where it is lost.
+/// The octets that arrive for the first frame in transit: its own, or those of a damage; none if it is lost.
 fn arriving(
     way: &mut VecDeque<Vec<u8>>, how: &[&str], is_frame: impl Fn(&[u8]) -> bool,
 ) -> Result<Option<Vec<u8>>, String> {

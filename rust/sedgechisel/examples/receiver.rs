@@ -1,7 +1,7 @@
-//! A receiver on board of spacecraft 1, virtual channel 2: it cuts the octets of standard input into telecommand
-//! frames, gives those of its channel to FARM-1, joins the packets of its two MAPs, and writes these, and after each
-//! frame the control word for the ground. With the word `--check` each frame ends with its FECF, as on a link. The
-//! receiver takes no memory but what is set aside at the start.
+//! A receiver on board spacecraft 1, virtual channel 2: it cuts the octets of standard input into telecommand frames,
+//! passes those of its channel to FARM-1, and joins the packets of its two MAPs. It writes the packets, and after each
+//! frame the CLCW for the ground. With the option `--check` each frame ends with its FECF, as on a link. The receiver
+//! uses no memory except what is set aside at the start.
 
 use sedgechisel::{
     packets, Body, Command, Farm, Fecf, Map, Segment, SegmentFlags, TcFault, TcFrame, Verdict,
@@ -33,7 +33,7 @@ impl Board<'_> {
         Ok(())
     }
 
-    /// Gives the receiver a frame that is its own. Packets are handed on at once, so there is always room.
+    /// Passes the receiver a frame of its own channel. Packets are passed on at once, so there is always room.
     fn receive(&mut self, body: Body) {
         match body {
             Body::Ad { n, segment } => match self.farm.ad(n, true) {
@@ -61,7 +61,7 @@ impl Board<'_> {
     }
 }
 
-/// What bypasses the sequence control is one packet in one segment, and no part of another one.
+/// Takes a segment sent by bypass, which must be exactly one packet.
 fn pass_by(segment: Segment) {
     match packets(segment.data).next() {
         Some(packet) if packet == segment.data && segment.flags == SegmentFlags::Alone => {
@@ -75,7 +75,7 @@ fn spelled(octets: &[u8]) -> String {
     octets.iter().map(|it| format!(" {it:02X}")).collect()
 }
 
-/// The length of the frame that the octets begin with, if they have all of it.
+/// Returns the length of the frame that the octets begin with, if they contain all of it.
 fn next_frame(octets: &[u8], fecf: Fecf) -> Result<Option<usize>, TcFault> {
     match TcFrame::declared(octets, fecf) {
         Err(TcFault::Short) => Ok(None),

@@ -1,12 +1,12 @@
-//! Follows the ways on after an alert and after a reset (docs/CONTROL.md, "After an alert", "After a reset") over random
-//! links, until that many sessions have begun: `recipe SESSIONS`. Frames are delayed and lost; in some runs they
-//! overtake each other, and in some the spacecraft restarts. In some the ground is lost at times, and another goes on
-//! at what was kept of it, or at an older record (docs/CONTROL.md, "The ground fails over"). On board each packet has to
-//! be the next one that was wanted on its MAP: none twice, and none left out that was said to be on board. recipe.c and
-//! recipe.py do the same, and write the same lines. A second word takes a step away, and is found out: with `early` it
-//! believes the first report after an alert, whenever that was made, and begins a session by it even where the ground
-//! refuses; with `numbers` it goes by the numbers of the ground and of the report alone, whatever the alert says, and
-//! whether the spacecraft has restarted.
+//! Recovers after alerts and resets (docs/CONTROL.md, "After an alert", "After a reset") over random links, until that
+//! many sessions have begun: `recipe SESSIONS`. Frames are delayed and lost; in some runs they overtake each other, and
+//! in some the spacecraft restarts. In some the ground is lost at times, and another one continues from its record, or
+//! from an older record (docs/CONTROL.md, "The ground fails over"). On board each packet must be the next one that was
+//! wanted on its MAP: none is repeated, and none that was counted as on board is left out. recipe.c and recipe.py do
+//! the same, and write the same lines. A second argument omits a step, and a check then fails. With `early` it believes
+//! the first CLCW after an alert, whenever that was made, and begins a session with it even if the ground refuses. With
+//! `numbers` it uses only the numbers of the ground and of the CLCW, whatever the alert shows, and whether or not the
+//! spacecraft has restarted.
 
 use sedgechisel::*;
 use std::collections::VecDeque;
@@ -21,7 +21,7 @@ const SLOWEST: u32 = 4;
 const LONGEST: u8 = 30;
 const LONGEST_RUN: i64 = 600;
 
-/// The numbers that all runs share: of what is drawn, and of what came.
+/// The numbers that all runs share: the state of the random draws, and the totals.
 struct Totals {
     state: u32,
     sessions: u64,
@@ -76,8 +76,8 @@ impl Way {
     }
 }
 
-/// What the spacecraft says of itself in a packet of each telemetry frame: how often it was started, the packets that
-/// are on board, and of these those that were taken.
+/// What the spacecraft states in a packet of each telemetry frame: how often it was started, how many packets are on
+/// board, and how many of these were taken.
 #[derive(Clone, Copy, Default)]
 struct Board {
     starts: u8,
@@ -96,18 +96,18 @@ struct Run {
     /// Whether a session has begun; whether a condition was broken since, so that nothing is known of it.
     has_begun: bool,
     is_broken: bool,
-    /// The tick from which nothing has gone up.
+    /// The tick since which nothing was sent up.
     quiet: i64,
     submitted: usize,
-    /// The packets that earlier sessions have brought on board.
+    /// How many packets earlier sessions have brought on board.
     done: usize,
-    /// Whether the spacecraft restarts at times; how often it was started; and what of that has come.
+    /// Whether the spacecraft restarts at times; how often it was started; and what telemetry has shown of that.
     restarts: bool,
     starts: u8,
     heard_of: Board,
     taken: [usize; 2],
-    /// Whether the ground is lost at times; what is kept of it, which in some runs is stored seldom; and whether the
-    /// ground was opened at such a record.
+    /// Whether the ground is lost at times; whether its record is stored seldom; and whether the ground was opened from
+    /// such a record.
     fails: bool,
     is_late: bool,
     is_old: bool,
@@ -176,8 +176,8 @@ impl Run {
         self.taken.iter().sum()
     }
 
-    /// The spacecraft restarts: what was not taken is gone. It begins in Lockout, by a frame whose number is in neither
-    /// window, so that no report of the new receiver is believed.
+    /// Restarts the spacecraft: what was not taken is lost. It begins in Lockout, by a frame whose number is in neither
+    /// window, so that no CLCW of the new receiver is believed.
     fn restart(&mut self) -> Outcome {
         self.spacecraft = Spacecraft::new(&self.config)?;
         let segment = Segment { flags: SegmentFlags::Alone, map: 0, data: &[0] };
@@ -191,21 +191,21 @@ impl Run {
         Ok(())
     }
 
-    /// What is kept of the ground; in some runs an older record stays.
+    /// Stores the ground's record; in some runs an older record stays.
     fn store(&mut self, all: &mut Totals) {
         if !self.is_late || all.draw(8) == 0 {
             self.stored = self.ground.kept();
         }
     }
 
-    /// The ground is lost, and another goes on; a round trip has to go by from now on.
+    /// Replaces the lost ground by another one; a round trip must pass from now on.
     fn fail_over(&mut self, now: i64) -> Outcome {
         self.ground = Ground::open_at(&self.config, &self.stored)?;
         (self.is_old, self.quiet) = (self.is_late, now);
         Ok(())
     }
 
-    /// The next telemetry frame: a report, and beside it what the spacecraft says of itself.
+    /// Sends the next telemetry frame: a CLCW, and next to it what the spacecraft states.
     fn report(&mut self, all: &mut Totals, now: i64) -> Outcome {
         let taken = u8::try_from(self.taken())?;
         let whole = taken + u8::try_from(self.spacecraft.ready())?;
@@ -216,7 +216,7 @@ impl Run {
         Ok(())
     }
 
-    /// Takes a packet on board, which has to be the next of its MAP; whether there was one.
+    /// Takes a packet on board, which must be the next of its MAP. Returns whether there was one.
     fn take(&mut self, all: &mut Totals) -> Result<bool, Box<dyn Error>> {
         let Some(packet) = self.spacecraft.take()? else {
             return Ok(false);
@@ -231,12 +231,12 @@ impl Run {
         Ok(true)
     }
 
-    /// Begins the next session where the last one has got to.
+    /// Begins the next session from the point that the last one reached.
     fn resume(&mut self, all: &mut Totals, value: u8, board: Board) -> Outcome {
         let known = self.ground.known_on_board(value);
         let is_as_said = known.is_some_and(|it| self.done as u64 + it == u64::from(board.whole));
         if self.is_old && !is_as_said {
-            // the second way
+            // start afresh
             self.done = board.whole.into();
             return self.begin_first(all, value);
         }
@@ -254,8 +254,8 @@ impl Run {
         Ok(())
     }
 
-    /// Begins a session by an initiation, where nothing is known of one before. Where frames overtake each other no
-    /// number is chosen, since a report of the one before might come later.
+    /// Begins a session by an initiation, if nothing is known of an earlier one. If frames overtake each other, no
+    /// number is chosen, because a CLCW of the earlier session might arrive later.
     fn begin_first(&mut self, all: &mut Totals, value: u8) -> Outcome {
         let how = all.draw(4);
         if how == 0 && !self.down.swaps {
@@ -271,7 +271,7 @@ impl Run {
         Ok(())
     }
 
-    /// Begins a session by a report, and by what the spacecraft said of itself beside it.
+    /// Begins a session with the value of a CLCW, and with what the spacecraft stated next to it.
     fn begin(&mut self, all: &mut Totals, value: u8, board: Board) -> Outcome {
         if all.by_numbers {
             // each packet is one segment
@@ -295,7 +295,7 @@ impl Run {
         Ok(())
     }
 
-    /// An alert that shows a broken condition: nothing is known of the session from then on.
+    /// Takes an alert. If it shows a broken condition, nothing is known of the session from then on.
     fn see(&mut self, all: &mut Totals, alert: Option<Alert>) {
         all.alerts += u64::from(alert.is_some());
         if alert.is_some_and(|it| it.shows_a_broken_condition()) {
@@ -306,8 +306,8 @@ impl Run {
         }
     }
 
-    /// What the spacecraft says of itself. Where it was started again, the session ends, and nothing is known of it; a
-    /// round trip has to go by from now on.
+    /// Takes what the spacecraft states. If it has restarted, the session ends, and nothing is known of the session; a
+    /// round trip must pass from now on.
     fn take_telemetry(&mut self, all: &Totals, now: i64) -> Result<Board, Box<dyn Error>> {
         let packet = self.ground.take_telemetry()?.ok_or("a frame without its packet")?;
         let board = Board { starts: packet[6], whole: packet[7], taken: packet[8] };
@@ -381,8 +381,8 @@ impl Run {
         Ok(())
     }
 
-    /// Goes on until all packets were taken, as the spacecraft says, as long as a run may be. What was said to be on
-    /// board has come then, unless the spacecraft has restarted and not said so yet, or the ground is at an old record.
+    /// Continues until telemetry shows that all packets were taken, or to the longest run. What was counted as on
+    /// board has then arrived, unless telemetry has not shown a restart yet, or the ground uses an old record.
     fn play(&mut self, all: &mut Totals) -> Outcome {
         for now in 0..LONGEST_RUN {
             if usize::from(self.heard_of.taken) == PACKETS || all.begun >= all.sessions {

@@ -1,10 +1,10 @@
-//! A ground on bare control words, as a loop of select: it waits for what comes down, for a command to be sent, or for the
-//! next tick, whichever comes first, and after each sends up what is to be sent. On a loopback socket is a front end with
-//! a spacecraft after it. Both ways are slow and lose frames; for a while the link is dark, and once the spacecraft
-//! restarts. Each command is executed once, in order: each session begins by the steps of docs/CONTROL.md, "The steps".
-//! Control words and housekeeping come in one ordered stream, so housekeeping that comes after a word was made after it;
-//! where they come by two ways, that has to be known otherwise. All channels are std's; with an executor the arms are those
-//! of its own select.
+//! A ground on bare CLCWs, as a select loop: it waits for what arrives, for a command to be sent, or for the next tick,
+//! whichever is first, and then sends up what is to be sent. On a loopback socket there is a front end with a
+//! spacecraft behind it. Both directions are slow and lose frames; for a while the link is dark, and once the
+//! spacecraft restarts. Each command is executed once, in order: each session begins by the steps of docs/CONTROL.md,
+//! "The steps". CLCWs and housekeeping arrive in one ordered stream, so housekeeping that arrives after a CLCW was made
+//! after it. If they arrive by two paths, a program must learn this in another way. All channels are std's; with an
+//! executor, use the same arms in the executor's own select.
 
 use sedgechisel::{
     Alert, Body, Clcw, Config, Fecf, FopState, Ground, HeardReport, LinkFault, Packet, PacketKind,
@@ -24,11 +24,11 @@ type Outcome<T> = Result<T, Box<dyn Error + Send + Sync>>;
 const COMMANDS: usize = 300;
 const MAP: u8 = 4;
 
-/// The ground's clock, and how often the spacecraft sends a control word.
+/// The ground's clock, and the time between CLCWs.
 const TICK: Duration = Duration::from_millis(10);
 const REPORT: Duration = Duration::from_millis(5);
 
-/// Longer than the longest round trip, in ticks: nothing is on its way up after so many ticks in which nothing was sent.
+/// Longer than the longest round trip, in ticks. After so many without a pull, nothing is in transit on the uplink.
 const ROUND_TRIP: u32 = 50;
 
 fn config() -> Config {
@@ -37,17 +37,17 @@ fn config() -> Config {
 
 // ---- The ground. ----
 
-/// What the ground waits for, besides its clock.
+/// What the ground waits for, in addition to its clock.
 enum Event {
-    /// A control word came down.
+    /// A CLCW arrived.
     Word([u8; 4]),
-    /// Housekeeping came down: how often the spacecraft has begun, and the number of commands that it has executed.
+    /// Housekeeping arrived: how often the spacecraft has restarted, and how many commands it has executed.
     Housekeeping { boots: u32, executed: usize },
     /// A command is to be sent.
     Submit(Vec<u8>),
 }
 
-/// The ground with what its program keeps.
+/// The ground, and what its program keeps.
 struct Station {
     ground: Ground,
     up: TcpStream,
@@ -58,15 +58,15 @@ struct Station {
     silence: u32,
     /// Nothing is sent until a session begins.
     is_stopped: bool,
-    /// Whether the spacecraft has said, with its command on board, that V(R) is V(S).
+    /// Whether a CLCW has shown, with the session's command on board, that V(R) is V(S).
     is_set: bool,
-    /// Whether no restart was seen since either: nothing is submitted before.
+    /// Whether no restart was seen since then either: nothing is submitted before.
     is_open: bool,
-    /// Whether the session that ended says what is on board.
+    /// Whether the session that ended shows what is on board.
     is_known: bool,
-    /// A report that was made when nothing was on its way up.
+    /// A CLCW that was made when nothing was in transit on the uplink.
     word: Option<Clcw>,
-    /// Whether telemetry did not agree with what such a report says is on board.
+    /// Whether telemetry did not agree with what such a CLCW shows to be on board.
     has_disagreed: bool,
     boots: Option<u32>,
     executed: usize,
@@ -78,7 +78,7 @@ impl Station {
     fn run(&mut self, events: &Receiver<Event>) -> Outcome<()> {
         let mut clock = Instant::now() + TICK;
         while self.executed < COMMANDS {
-            // What has come is taken before the tick that is due.
+            // What has arrived is taken before the tick that is due.
             match events.recv_timeout(clock.saturating_duration_since(Instant::now())) {
                 Ok(Event::Word(octets)) => self.hear_word(&octets)?,
                 Ok(Event::Housekeeping { boots, executed }) => self.hear_housekeeping(boots, executed)?,
@@ -119,7 +119,7 @@ impl Station {
             let has_flag = word.lockout || word.wait || word.retransmit;
             self.is_set = word.value == self.ground.vs() && !has_flag;
         } else if word.wait {
-            self.silence = 0; // the reports before the wait flag is gone say otherwise
+            self.silence = 0; // CLCWs made before the wait flag is cleared show something else
         } else {
             self.is_known &= !word.lockout;
             self.word = Some(word);
@@ -129,7 +129,7 @@ impl Station {
 
     fn hear_housekeeping(&mut self, boots: u32, executed: usize) -> Outcome<()> {
         if self.boots != Some(boots) {
-            // It has restarted, or nothing was heard of it before.
+            // The spacecraft has restarted, or nothing was heard of it before.
             if self.ground.state() != FopState::S6 {
                 self.ground.terminate()?;
             }
@@ -137,19 +137,19 @@ impl Station {
         }
         (self.boots, self.executed) = (Some(boots), executed);
         if let Some(word) = self.word.take() {
-            // It came before this, and no restart was between.
+            // The CLCW arrived before this, with no restart in between.
             return self.begin(word.value);
         }
-        // So too since the command of the session arrived.
+        // Nor has it restarted since the session's command arrived.
         self.is_open |= self.is_set;
         Ok(())
     }
 
-    /// The next session. Where the last one does not say what is on board, the spacecraft's telemetry does; where it
-    /// does, both agree, since the spacecraft has executed all that was ready.
+    /// Begins the next session. If the last one does not show what is on board, the spacecraft's telemetry does. If it
+    /// does, both agree, because the spacecraft has executed all that was ready.
     fn begin(&mut self, value: u8) -> Outcome<()> {
         let (vs, nn) = (self.ground.vs(), self.ground.nn());
-        // (Where V(S) = NN(R) nothing was unacknowledged, and V(R) is no other number.)
+        // (If V(S) = NN(R), nothing was unacknowledged, and V(R) must be the same number.)
         let is_known = self.is_known && (vs != nn || value == vs);
         match self.ground.known_on_board(value).filter(|_| is_known) {
             None => {
@@ -192,7 +192,7 @@ impl Station {
     }
 }
 
-/// Hands on what comes down: a letter, then a control word, or two numbers of four octets.
+/// Forwards what arrives: a letter, then a CLCW, or two numbers of four octets.
 fn listen(mut down: TcpStream, events: &Sender<Event>) -> Outcome<()> {
     loop {
         let (mut kind, mut word) = ([0], [0; 4]);
@@ -208,7 +208,7 @@ fn listen(mut down: TcpStream, events: &Sender<Event>) -> Outcome<()> {
     }
 }
 
-/// Those who send commands: one each millisecond.
+/// Submits a command each millisecond.
 fn submit(events: &Sender<Event>) -> Outcome<()> {
     for count in 0..COMMANDS {
         let (kind, flags) = (PacketKind::Telecommand, SequenceFlags::Unsegmented);
@@ -221,8 +221,8 @@ fn submit(events: &Sender<Event>) -> Outcome<()> {
 
 // ---- The front end and the spacecraft. ----
 
-/// A direction of the link: what goes by it comes later, in order, or is lost, three of a hundred by a generator of
-/// Lehmer's.
+/// A direction of the link: what is sent arrives later, in order, or is lost (three of a hundred, by a Lehmer
+/// generator).
 struct Way {
     random: u64,
     queue: VecDeque<(Instant, Vec<u8>)>,
@@ -252,19 +252,19 @@ impl Way {
     }
 }
 
-/// What is on the link for a ground: ways up and down, and the spacecraft with the counts of the commands that it executed.
+/// What a ground sees of the link: both directions, and the spacecraft with the counts of the commands it executed.
 struct FrontEnd {
     spacecraft: Spacecraft,
     boots: u32,
     executed: Vec<u16>,
-    /// The reports for which the link will be dark.
+    /// For how many CLCWs the link will be dark.
     dark: u32,
     up: Way,
     down: Way,
 }
 
 impl FrontEnd {
-    /// Runs until the ground is gone: the counts of the commands that were executed.
+    /// Runs until the ground is gone. Returns the counts of the commands that were executed.
     fn run(mut self, mut stream: TcpStream, frames: &Receiver<Vec<u8>>) -> Outcome<Vec<u16>> {
         let (mut clock, mut turn) = (Instant::now() + REPORT, 0u32);
         loop {
@@ -287,7 +287,7 @@ impl FrontEnd {
         }
     }
 
-    /// Executes what is ready, and sends a control word, and in each tenth turn housekeeping.
+    /// Executes what is ready, and sends a CLCW, and in each tenth turn housekeeping.
     fn report(&mut self, turn: u32) -> Outcome<()> {
         while let Some((_, packet)) = self.spacecraft.take()? {
             self.executed.push(Packet::decode(&packet)?.count);
@@ -306,7 +306,7 @@ impl FrontEnd {
         Ok(())
     }
 
-    /// A new node, which has nothing of the old one. It begins in Lockout, so that its reports are not believed.
+    /// Opens a new node, which has nothing of the old one. It begins in Lockout, so that its CLCWs are not believed.
     fn restart(&mut self) -> Outcome<()> {
         (self.spacecraft, self.boots) = (Spacecraft::new(&config())?, self.boots + 1);
         let segment = Segment { flags: SegmentFlags::Alone, map: MAP, data: b"." };
@@ -316,7 +316,7 @@ impl FrontEnd {
     }
 }
 
-/// Hands on the frames that the ground sends, each as long as it declares.
+/// Forwards the frames that the ground sends, each as long as it declares.
 fn receive(mut stream: TcpStream, frames: &Sender<Vec<u8>>) -> Outcome<()> {
     loop {
         let mut frame = vec![0; 5];

@@ -1,6 +1,6 @@
-//! A sender and a receiver, and between them a link that loses a third of all frames and reports: a hundred units of
-//! one octet go up, and the program ends when all are acknowledged. It writes what it took, as c/examples/session.c
-//! does.
+//! A sender and a receiver, and between them a link that loses a third of all frames and CLCWs. A hundred units of one
+//! octet are sent, and the program ends when all are acknowledged. It writes how much this took, as
+//! c/examples/session.c does.
 
 use sedgechisel::{Body, Clcw, Farm, Fecf, Fop, Next, Segment, SegmentFlags, TcFrame, Verdict};
 use std::error::Error;
@@ -12,7 +12,7 @@ const WINDOW: u8 = 10;
 const LIMIT: u8 = 255;
 const TIMER: u16 = 8;
 
-/// The link, which loses by a generator of Lehmer's, whose numbers are 31 bits.
+/// The link, whose losses a Lehmer generator of numbers of 31 bits decides.
 struct Link {
     state: u64,
     frames: u32,
@@ -27,7 +27,7 @@ impl Link {
         is_lost
     }
 
-    /// A unit goes up in a frame; returns it if the receiver hands it on.
+    /// Carries a unit up in a frame. Returns the unit if the receiver accepts it.
     fn carry_up(&mut self, farm: &mut Farm, n: u8, unit: u8) -> Result<Option<u8>, Box<dyn Error>> {
         let segment = Segment { flags: SegmentFlags::Alone, map: 4, data: &[unit] };
         let frame = TcFrame { scid: 1, vcid: CHANNEL, body: Body::Ad { n, segment } };
@@ -43,7 +43,7 @@ impl Link {
         }
     }
 
-    /// A report goes down; returns it if it arrives.
+    /// Carries a CLCW down. Returns the CLCW if it arrives.
     fn carry_down(&mut self, farm: &Farm) -> Result<Option<Clcw>, Box<dyn Error>> {
         let octets = farm.control_word(CHANNEL)?.encode()?;
         if self.is_lost() {
