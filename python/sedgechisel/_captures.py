@@ -12,13 +12,13 @@ from ._library import frame_length_of
 _FARTHEST = 300  # how many frames after the previous CLCW are searched for those that cause the next one
 _LOCKOUT, _WAIT, _RETRANSMIT = int(Flags.LOCKOUT), int(Flags.WAIT), int(Flags.RETRANSMIT)
 _State = Tuple[int, int, int]  # of a receiver: V(R), FARM-B and flags
-_States = Dict[Tuple[int, int], int]  # by FARM-B and flags, where bit v says that V(R) may be v
+_States = Dict[Tuple[int, int], int]  # by FARM-B and flags; bit v is 1 if V(R) may be v
 _BELOW = [sum(1 << (number - above) % 256 for above in range(1, 128)) for number in range(256)]  # V(R) behind each N(S)
 _Word = Union[Clcw, ClcwFault, TmFault]
 
 
 class Record(NamedTuple):
-    """A record of a ladder: whether it is on the uplink, its name, the text beside it, and whether it is valid."""
+    """A record of a ladder: whether it is on the uplink, its name, the text next to it, and whether it is valid."""
 
     is_up: bool
     name: str
@@ -110,7 +110,7 @@ def _earliest(frames: Sequence[Union[TcFrame, TcFault]], begun: int, states: _St
 
 
 def _placed(frames: Sequence[Union[TcFrame, TcFault]], words: Sequence[_Word]) -> Iterator[Tuple[int, str, str, bool]]:
-    """Yields for each CLCW the least number of frames that were sent before it, its name, the text beside it, and
+    """Yields for each CLCW the least number of frames that were sent before it, its name, the text next to it, and
     whether it is valid. The first CLCW shows the state of the receiver before all frames, as far as is known. No buffer
     on board is full unless a CLCW has the wait flag."""
     states: _States = {}

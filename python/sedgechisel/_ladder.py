@@ -8,7 +8,7 @@ from typing import Any, Callable, Dict, List, Sequence, Tuple
 MOST_ROWS = 1000
 # The lines of a script that happen on board.
 ON_BOARD = {"report", "take", "takebypass", "telemetry"}
-# The two ends, the width, where the ends' lines begin, the first row, a row's height, and how many letters fit beside.
+# The two ends, the width, where the ends' lines begin, the first row, a row's height, and the letters that fit outside.
 _GROUND, _CRAFT, _WIDTH, _HEAD, _TOP, _ROW, _SIDE = 300, 600, 900, 34, 54, 26, 36
 _NO_TIMES = "Captures have no times: each CLCW is drawn as early as it can follow from the frames."
 _STYLE = ("text { font: 13px monospace; fill: #123; paint-order: stroke; stroke: #fff; stroke-width: 6px; "
@@ -91,7 +91,7 @@ class _Ladder(Picture):
             super().text(x, y, text, anchor, **more)
 
     def beside(self, is_ground: bool, y: int, text: str) -> None:
-        """Adds words beside an end."""
+        """Adds words next to an end."""
         self.text(_GROUND - 10 if is_ground else _CRAFT + 10, y + 4, cut(text), "end" if is_ground else "start")
 
     def frame(self, is_up: bool, begun: int, y: int, label: str, colour: str = _LINE) -> None:
@@ -156,7 +156,7 @@ def session(title: str, events: Sequence[Tuple[str, str]], name_of: Callable[[by
 
 def captures(title: str, records: Sequence[Tuple[bool, str, str, bool]], first: int = 0) -> str:
     """Returns the ladder of two captures as SVG, from the record `first` on. A record contains whether it is on the
-    uplink, its name, the text beside it, and whether it is valid."""
+    uplink, its name, the text next to it, and whether it is valid."""
     shown = records[first:first + MOST_ROWS]
     picture = _Ladder(len(shown) + 1, title)
     for row, (is_up, label, told, is_valid) in enumerate(shown):

@@ -33,7 +33,7 @@ trait Ends {
     }
 }
 
-/// The calls that the nodes and the link have in common, given what has those of the ground and of the spacecraft.
+/// The calls that the nodes and the link share: `$ground` has the ground's, and `$spacecraft` the spacecraft's.
 macro_rules! calls {
     ($words:expr, $ground:expr, $spacecraft:expr) => {
         match *$words {
