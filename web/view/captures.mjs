@@ -2,11 +2,12 @@
 // one on, a number of them at a time. A total leads to its next line, and a line to its octets. The address says what to begin with: #capture=EXAMPLE&command=NAME, and the
 // options of the command by their names.
 import { digitsOf, octetsOf } from '../link.mjs';
+import { faultOf, faultWords, isMostlyChecked, passWords } from './faults.mjs';
 import { decoded, make } from './panels.mjs';
 import { Runner } from './runner.mjs';
 import { KINDS } from './words.mjs';
 
-const FIRST = 1 << 20, FAULT = ' invalid \\d', BEFORE = 3; // octets of a hint, and lines before one that was found
+const FIRST = 1 << 20, BEFORE = 3; // octets of a sample, and lines before one that was found
 const HEADER = 5; // octets
 // What the records of a command are, by whether frames end with their check, and how long each is.
 const RECORDS = {
@@ -33,7 +34,8 @@ const quoted = (word) => (/^[\w./:,+-]+$/.test(word) ? word : `'${word.replaceAl
 
 export class Captures {
     constructor({ commands, captures }, calls) {
-        Object.assign(this, { commands, captures, calls, runner: new Runner(), looker: new Runner(), values: {} });
+        Object.assign(this, { commands, captures, calls, values: {}, isDecided: false, isByPage: false });
+        Object.assign(this, { runner: new Runner(), looker: new Runner(), searcher: new Runner() });
         at('command').append(...commands.map((it) => new Option(it.name, it.name)));
         at('sample').append(new Option('none', ''), ...Object.keys(captures).map((it) => new Option(it, it)));
         this.choose(commands[0].name);
@@ -53,18 +55,22 @@ export class Captures {
             this.list();
         });
         at('next-fault').addEventListener('click', () => this.nextFault());
-        at('use-check').addEventListener('click', () => this.useCheck());
+        at('use-check').addEventListener('click', () => this.useCheck(!this.values.check));
+        at('first-fault').addEventListener('click', () => this.goTo(this.first));
         at('totals').addEventListener('click', ({ target }) => target.dataset.finds && this.find(target.dataset.finds, target.textContent));
         at('listed').addEventListener('click', ({ target }) => this.showRecord(target.closest('#listed > div')));
         at('listed').addEventListener('keydown', (event) => this.moveLine(event));
-        at('stop').addEventListener('click', () => this.runner.isRunning && this.stop());
+        at('stop').addEventListener('click', () => (this.runner.isRunning ? this.stop() : this.stopSearch()));
         at('later').addEventListener('click', () => this.later && this.show([...this.starts, this.later]));
         at('earlier').addEventListener('click', () => this.starts?.length > 1 && this.show(this.starts.slice(0, -1)));
     }
 
-    // Takes a file, and lists it.
+    // Takes a file, and lists it. Whether its frames have a check is then for the page to find out, unless it is an
+    // example, which has its options.
     open(file) {
-        this.file = file;
+        if (this.isByPage) this.values.check = false;
+        Object.assign(this, { file, isDecided: 'sample' in file, isByPage: false });
+        this.showCheck();
         if (file !== at('file').files[0]) at('file').value = '';
         at('sample').value = file.sample ?? '';
         this.list();
@@ -75,6 +81,7 @@ export class Captures {
         const { octets, words: [command, ...rest] } = this.captures[name] ?? { words: [] };
         if (octets === undefined) return;
         this.values = {};
+        this.decide();
         rest.forEach((it, k) => {
             const isFlag = rest[k + 1]?.startsWith('--') ?? true;
             if (it.startsWith('--')) this.values[it.slice(2)] = isFlag ? true : rest[k + 1];
@@ -103,15 +110,21 @@ export class Captures {
         else input.checked = this.values[name] ?? false;
         input.addEventListener('input', () => {
             this.values[name] = value ? input.value.trim() : input.checked;
+            if (name === 'check') this.decide();
         });
         label.append(' ', input);
         return field;
     }
 
+    // The options of the command that are given, with their values.
+    get asked() {
+        const given = this.options.filter(({ name }) => this.values[name]);
+        return Object.fromEntries(given.map(({ name, value }) => [name, value ? this.values[name] : true]));
+    }
+
     // The command and its options as words.
     words() {
-        const given = this.options.filter(({ name }) => this.values[name]);
-        const words = given.map(({ name, value }) => [`--${name}`, ...(value ? [this.values[name]] : [])]);
+        const words = Object.entries(this.asked).map(([name, it]) => [`--${name}`, ...(it === true ? [] : [it])]);
         return [this.command.name, ...words.flat()];
     }
 
@@ -134,58 +147,128 @@ export class Captures {
         return this.runner.run({ words: [...words, this.name], file: this.file, ...asked }, take);
     }
 
-    // Lists the file anew: its totals, and then its lines from the first one on.
+    // Lists the file anew: its totals, then its lines from the first one on, and which is the first with a fault.
     list() {
         this.stop();
+        this.searcher.stop();
         if (this.file === undefined) return undefined;
         this.name = this.file.name.startsWith('-') ? `./${this.file.name}` : this.file.name;
         for (const name of ['totals', 'listed', 'record']) at(name).replaceChildren();
-        at('hint').hidden = true;
-        this.found = undefined;
+        const listing = {};
+        Object.assign(this, { listing, found: undefined, totals: {} });
         this.say('');
-        at('typed').textContent = ['tctool', ...this.words(), this.name].map(quoted).join(' ');
+        this.tellFirst('');
         return this.attempt(async () => {
+            this.begin('Reading the first frames');
+            if (this.canCheck) await this.takeSample(listing);
+            if (listing !== this.listing) return;
+            this.chooseCheck();
+            at('typed').textContent = ['tctool', ...this.words(), this.name].map(quoted).join(' ');
             await this.explain();
             this.begin('Reading for the totals');
             this.counted = await this.run([...this.words(), '--count'], {}, (it) => this.takeTotals(it));
             await this.showLines([0]);
-            await this.hint();
+            await this.findFirst();
         });
     }
 
-    // Lists the file again, with the check of its frames.
-    useCheck() {
-        this.values.check = true;
-        this.choose(this.command.name);
+    // Whether the command can read frames with their check or without it; and whether it reads them without.
+    get canCheck() {
+        return this.options.some(({ name }) => name === 'check');
+    }
+
+    get lacksCheck() {
+        return this.canCheck && !this.values.check;
+    }
+
+    // Counts the whole frames that begin the file, and those of them that pass a check, unless another listing begins.
+    async takeSample(listing) {
+        const { file } = this, totals = {};
+        if (this.sample?.file === file) return;
+        const octets = await file.slice(0, FIRST).arrayBuffer().catch(() => new ArrayBuffer(0));
+        const count = wholeFrames(new Uint8Array(octets));
+        if (listing !== this.listing) return;
+        await this.runner.run({ words: ['check', '--count', this.name], file: new Blob([octets]).slice(0, count) }, ({ lines = [] }) => {
+            for (const line of lines) totals[line.replace(/ \d+$/, '')] = Number(line.match(/\d+$/)?.[0]);
+        });
+        this.sample = { file, good: totals.records - (totals.invalid ?? 0), records: totals.records };
+    }
+
+    // Takes the check if most of the first frames pass it, unless somebody has decided; and says how many do.
+    chooseCheck() {
+        const { sample, canCheck, file } = this, isKnown = canCheck && sample?.file === file;
+        if (isKnown && !this.isDecided && !this.values.check && isMostlyChecked(sample)) {
+            this.isByPage = true;
+            this.values.check = true;
+            this.showCheck();
+        }
+        const words = isKnown ? passWords(sample, this.values.check, this.isByPage) : '';
+        at('hint').hidden = words === '';
+        at('hint-words').textContent = words;
+        at('use-check').textContent = `list ${this.values.check ? 'without' : 'with'} --check`;
+    }
+
+    // The box of --check is as the option is.
+    showCheck() {
+        const box = at('help-check')?.parentElement.querySelector('input');
+        if (box) box.checked = this.values.check ?? false;
+    }
+
+    // From now on, whether the check is used is not for the page to decide.
+    decide() {
+        Object.assign(this, { isDecided: true, isByPage: false });
+    }
+
+    // Lists the file again, with the check of its frames or without it.
+    useCheck(isWanted) {
+        this.decide();
+        this.values.check = isWanted;
+        this.showCheck();
         return this.list();
     }
 
-    // Shows the next line with a fault. If the frames have a check, it is used from now on, since most faults are there.
-    async nextFault() {
-        if (at('next-fault').getAttribute('aria-disabled') === 'true') return;
-        const isNew = !at('hint').hidden;
-        if (isNew) await this.useCheck();
-        await this.find(FAULT, 'fault');
-        if (isNew) at('told').prepend('Listed with --check. ');
+    nextFault() {
+        if (at('next-fault').getAttribute('aria-disabled') !== 'true') this.find(faultOf(this.asked), 'fault');
     }
 
-    // Whether frames are read without their check, though the command could use it.
-    get lacksCheck() {
-        return !this.values.check && this.options.some(({ name }) => name === 'check');
+    // Says which record is the first with a fault. Where it is not among the lines that are shown, it is looked for
+    // beside what else is done.
+    async findFirst() {
+        const { totals, file, asked, counted: { status, said } } = this, pattern = faultOf(asked);
+        const context = { command: this.command.name, asked, isPlain: this.lacksCheck };
+        if (status > 1) return;
+        let found;
+        if (totals.invalid || totals.skipped) {
+            const shown = [...at('listed').children].map((it) => it.textContent), place = shown.findIndex((it) => new RegExp(pattern).test(it));
+            this.tellFirst('Looking for the first fault.');
+            found = place < 0 ? await this.search(pattern, file) : { place, line: shown[place] };
+        }
+        this.first = found && { ...found, pattern };
+        this.tellFirst(faultWords(context, { ...totals, said }, found), found);
     }
 
-    // Says whether frames that are read without their check pass one: by chance 1 in 65,536 does.
-    async hint() {
-        const totals = {}, { file } = this;
-        if (!this.lacksCheck || file.size === 0) return;
-        const sample = file.slice(0, wholeFrames(new Uint8Array(await file.slice(0, FIRST).arrayBuffer())));
-        await this.looker.run({ words: ['check', '--count', this.name], file: sample }, ({ lines = [] }) => {
-            for (const line of lines) totals[line.replace(/ \d+$/, '')] = Number(line.match(/\d+$/)?.[0]);
-        });
-        const good = totals.records - (totals.invalid ?? 0);
-        if (file !== this.file || !(good > totals.records / 100)) return;
-        at('hint-words').textContent = `${good} of the first ${totals.records} frames pass a check: `;
-        at('hint').hidden = false;
+    async search(pattern, file) {
+        const searching = this.searcher.run({ words: [...this.words(), this.name], file, finds: pattern }, () => {});
+        at('stop').setAttribute('aria-disabled', false);
+        const { place, line } = await searching;
+        at('stop').setAttribute('aria-disabled', !this.runner.isRunning);
+        return place === undefined ? undefined : { place, line };
+    }
+
+    stopSearch() {
+        if (!this.searcher.isRunning) return;
+        this.searcher.stop();
+        this.end();
+        this.tellFirst('Stopped: the first fault is not known.');
+    }
+
+    // Says something of the first fault: as a button that goes there, if it was found.
+    tellFirst(words, found) {
+        at('first-found').hidden = words === '';
+        at('first-found').className = found ? 'bad' : '';
+        at('first-words').textContent = found ? '' : words;
+        at('first-fault').textContent = found ? words : '';
+        at('first-fault').hidden = !found;
     }
 
     // Shows the next line of a pattern, after the one that was found last, or the first one where there is no later.
@@ -203,13 +286,23 @@ export class Captures {
                 at('told').textContent = `No ${after === 0 ? '' : 'later '}line has ${what}.`;
                 return;
             }
-            await this.showLines(place > BEFORE ? [0, place - BEFORE] : [0]);
-            this.found = { pattern, place };
-            const line = at('listed').children[Math.min(place, BEFORE)];
-            line.classList.add('found');
-            at('listed').scrollTop = line.offsetTop - at('listed').clientHeight / 3;
-            await this.showRecord(line);
+            await this.showFound({ pattern, place });
         });
+    }
+
+    // Goes to a line that was found before.
+    goTo(found) {
+        return found && this.attempt(() => this.showFound(found));
+    }
+
+    // Shows a line that was found, those around it, and its octets.
+    async showFound({ pattern, place }) {
+        await this.showLines(place > BEFORE ? [0, place - BEFORE] : [0]);
+        this.found = { pattern, place };
+        const line = at('listed').children[Math.min(place, BEFORE)];
+        line.classList.add('found');
+        at('listed').scrollTop = line.offsetTop - at('listed').clientHeight / 3;
+        await this.showRecord(line);
     }
 
     // Shows the octets of a line, and their fields: those that it has, or those of its record.
@@ -284,6 +377,7 @@ export class Captures {
         this.moved(read);
         for (const line of lines) {
             const [, name, count] = line.match(/^(.*) (\d+)$/) ?? [undefined, line, ''];
+            this.totals[name] = Number(count);
             at('totals').append(make('div', '', make('dt', '', this.total(name)), make('dd', '', count)));
         }
     }
@@ -300,7 +394,7 @@ export class Captures {
 
     takeLines({ read, lines = [] }) {
         this.moved(read);
-        const parts = lines.map((it) => make('div', new RegExp(FAULT).test(it) ? 'bad' : '', it));
+        const fault = new RegExp(faultOf(this.asked)), parts = lines.map((it) => make('div', fault.test(it) ? 'bad' : '', it));
         at('listed').append(...parts);
     }
 
@@ -319,7 +413,7 @@ export class Captures {
 
     end() {
         at('progress').hidden = true;
-        at('stop').setAttribute('aria-disabled', true);
+        at('stop').setAttribute('aria-disabled', !this.searcher.isRunning);
         at('earlier').setAttribute('aria-disabled', !(this.starts?.length > 1));
         at('later').setAttribute('aria-disabled', this.later === undefined);
         at('next-fault').setAttribute('aria-disabled', this.file === undefined);
@@ -341,6 +435,7 @@ export class Captures {
         if (name in this.captures) this.openSample(name);
         if (!asked.has('command')) return;
         this.values = Object.fromEntries([...asked].map(([option, value]) => [option, value || true]));
+        this.decide();
         this.choose(asked.get('command'));
         this.list();
     }

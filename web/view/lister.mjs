@@ -2,8 +2,8 @@
 // they come, in bounded memory. A message has the module, the words, the file, the number of lines before the first that is
 // wanted, the most lines and the most octets of them, and whether the command ends with the last of these; or `finds`,
 // the pattern of a line that is looked for. The answers are { read }, how far the file was read; { lines }; and at last
-// { status, said, isCut, place }, where isCut says that there are lines after those, and place is that of the line that
-// was looked for, from 0. The status is undefined where the command was ended before its own end. A message with
+// { status, said, isCut, place, line }, where isCut says that there are lines after those, and place is that of the line
+// that was looked for, from 0. The status is undefined where the command was ended before its own end. A message with
 // `record` instead asks where in the file a record is, and is answered by { said, from, octets }.
 import { run } from '../tctool.mjs';
 
@@ -42,7 +42,7 @@ class Lines {
         const k = lines.findIndex((it) => this.wanted.test(it));
         this.seen += k < 0 ? lines.length : k;
         if (k < 0) return;
-        this.place = this.seen;
+        Object.assign(this, { place: this.seen, line: lines[k] });
         throw ENOUGH;
     }
 
@@ -132,5 +132,5 @@ onmessage = ({ data }) => {
         if (error !== ENOUGH) throw error;
     }
     lines.post();
-    postMessage({ status, said, isCut: lines.isCut, place: lines.place });
+    postMessage({ status, said, isCut: lines.isCut, place: lines.place, line: lines.line });
 };

@@ -9,6 +9,7 @@ import { use } from '../values.mjs';
 import { COMMANDS, GUIDE, Run, dueWords, recordAt } from './board.mjs';
 import { wholeFrames } from './captures.mjs';
 import { choices, expected } from './choosing.mjs';
+import { faultOf, faultWords, isMostlyChecked, passWords } from './faults.mjs';
 import { againWords, courseWords } from './hints.mjs';
 import { swapped } from './plan.mjs';
 import { Player } from './player.mjs';
@@ -327,6 +328,32 @@ function whole() {
     assert.equal(count(frame, tiny, frame), 15);
 }
 
+// What is said of the first frames of a capture, and of the first fault.
+function faults() {
+    const ask = { command: 'tc', asked: {}, isPlain: false }, totals = { records: 9, octets: 135, said: '' };
+    const first = (line, more = {}, of = {}) => faultWords({ ...ask, ...more }, { ...totals, ...of }, line && { line, place: 8 });
+    assert.equal(first('7 invalid 6 Check'), 'The first frame with a fault is frame 7 of 9: 6 Check');
+    assert.equal(first('7 invalid 4 Spare', { isPlain: true }), 'The first frame with a fault without --check is frame 7 of 9: 4 Spare');
+    assert.equal(first('7 invalid 6 Check', { asked: { scid: '1' } }), 'The first listed frame with a fault is frame 7 of 9: 6 Check');
+    assert.equal(first(undefined, { asked: { vcid: '1' } }), 'No listed frame has a fault.');
+    assert.equal(first('10 invalid 1 Short'), 'No frame of 9 has a fault, but octets are left at the end: 1 Short');
+    assert.equal(first('report invalid 1 Kind', { command: 'tm' }), 'The first line with a fault is line 9: report invalid 1 Kind');
+    assert.equal(first('10 invalid 2 Version', { command: 'packets' }, { said: 'tctool: stopped at record 10, after 9 octets' }),
+        'The first packet with a fault is packet 10, where reading stops: 2 Version');
+    const resync = { asked: { resync: true, scid: '1', vcid: '2', check: true } };
+    assert.equal(first('7 skipped 23', resync), 'The first octets skipped are record 7 of 9: 23 octets');
+    assert.equal(first(undefined, resync), 'No octets are skipped.');
+    const holds = (pattern, line) => new RegExp(pattern).test(line);
+    assert.deepEqual(['7 skipped 23', '7 invalid 6 Check', '7 AD 1'].map((it) => [holds(faultOf({}), it), holds(faultOf(resync.asked), it)]),
+        [[false, true], [true, false], [false, false]]);
+    assert.deepEqual([[2, 3], [1, 2], [0, 0], [NaN, 0]].map(([good, records]) => isMostlyChecked({ good, records })), [true, false, false, false]);
+    const passes = [[1, 1, false], [0, 1, true], [0, 9, true], [1, 9, false], [0, 9, false], [1, 100, false], [0, 0, true]];
+    assert.deepEqual(passes.map(([good, records, isChecked]) => passWords({ good, records }, isChecked, false)), [
+        'The first frame passes a check: ', 'The first frame passes no check: ', 'None of the first 9 frames passes a check: ',
+        '1 of the first 9 frames passes a check: ', '', '', '',
+    ]);
+}
+
 // What the menu of the page says of an example.
 function courses() {
     const wanted = {
@@ -366,6 +393,7 @@ function causes() {
 reads();
 restarts();
 whole();
+faults();
 courses();
 causes();
 uncleanSession();
