@@ -1,5 +1,5 @@
 """Drives a browser without a window: Chromium by DevTools over pipes, Firefox by Marionette over a socket of this
-machine. A page has `go`, `value` (of an expression), `mouse`, `keys`, `enter` (a text), `choose` (a file) and
+machine. A page has `go`, `value` (of an expression), `mouse`, `keys`, `enter` (a text), `choose` (a file, in a field) and
 `picture`. (Within a container Chromium cannot make a sandbox of its own.)"""
 import base64
 import contextlib
@@ -99,8 +99,8 @@ class Chromium:
     def value(self, text):
         return self.ask("Runtime.evaluate", expression=text, returnByValue=True)["result"].get("value")
 
-    def choose(self, file):
-        found = self.ask("Runtime.evaluate", expression="document.getElementById('file')")["result"]["objectId"]
+    def choose(self, file, name="file"):
+        found = self.ask("Runtime.evaluate", expression=f"document.getElementById('{name}')")["result"]["objectId"]
         self.ask("DOM.setFileInputFiles", files=[file], objectId=found)
 
     def picture(self):
@@ -175,8 +175,8 @@ class Firefox:
     def value(self, text):
         return self.ask("WebDriver:ExecuteScript", script=f"return {text};", args=[])["value"]
 
-    def choose(self, file):
-        found = self.ask("WebDriver:FindElement", using="css selector", value="#file")["value"]
+    def choose(self, file, name="file"):
+        found = self.ask("WebDriver:FindElement", using="css selector", value=f"#{name}")["value"]
         self.ask("WebDriver:ElementSendKeys", id=next(iter(found.values())), text=file)
 
     def picture(self):

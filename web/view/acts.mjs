@@ -66,6 +66,19 @@ function slowness() {
     return Math.max(1, (performance.now() - begun) / 30 + (it === 0 ? 1 : 0));
 }
 
+// Does something that is measured, again up to five times until the milliseconds are below their limits: during one of
+// them others may have had the processor.
+async function within(limits, what, act) {
+    let found, times;
+    for (let k = 0; k < 5; k++) {
+        const before = slowness();
+        found = await act();
+        times = Math.max(before, slowness());
+        if (Object.entries(limits).every(([name, most]) => found[name] < most * times)) return;
+    }
+    throw new Error(`${what}: ${JSON.stringify(found)} ms, and not below ${times} times ${JSON.stringify(limits)}`);
+}
+
 // The longest time for which the page did nothing else while something was done.
 async function longestWait(act) {
     let last = performance.now(), longest = 0;
@@ -173,7 +186,58 @@ async function addresses() {
     at('link').click();
     await until('a link is copied', () => /^(Copied|In the address bar)$/.test(at('link').textContent));
     is(location.hash, hash, 'the address of the link');
-    if (location.protocol === 'file:') has(at('last').textContent, 'The link opens only where', 'a link of a file');
+    is(at('sharing').hidden, location.protocol !== 'file:', 'what to send instead of a link to a file');
+    has(at('sharing').textContent, 'send a colleague this page with this run', 'what to send');
+}
+
+// The page as a file: it has all that this page has, and begins with the run that is shown, however long it is.
+async function pages() {
+    const parts = (it) => [...it.querySelectorAll('style, script[id]')].map(({ id, textContent }) => [id, textContent]);
+    const long = `# ${Array.from({ length: 60000 }, () => Math.floor(16 * Math.random()).toString(16)).join('')}\n${OWN}`;
+    const begins = { 'own.html': `#script=${encodeURIComponent(long)}&line=8`, 'lost_frame.html': '#example=lost_frame&line=20' };
+    await own(long);
+    at('save-page').click();
+    await until('a long run as a page', () => saved.length === 1);
+    await goTo('#example=lost_frame&line=20', 'a line of an example', () => at('last').textContent.startsWith('Line 20'));
+    at('send-page').click();
+    await until('a run as a page', () => saved.length === 2);
+    for (const { name, part } of saved.splice(0)) {
+        const text = await part.text(), { documentElement: page } = new DOMParser().parseFromString(text, 'text/html');
+        is([part.type, text.startsWith('<!doctype html>'), page.dataset.begins], ['text/html', true, begins[name]], name);
+        is(JSON.stringify(parts(page)) === JSON.stringify(parts(document)), true, `the parts of ${name}`);
+        is([page.querySelectorAll('#example option').length, page.querySelector('#version').textContent], [0, ''], `${name} as it began`);
+    }
+}
+
+// A button opens a script or a capture, by its name.
+async function opening() {
+    const choose = (name, ...parts) => {
+        const chosen = new DataTransfer();
+        chosen.items.add(new File(parts, name));
+        at('any-file').files = chosen.files;
+        at('any-file').dispatchEvent(new Event('change', { bubbles: true }));
+    };
+    choose('some.txt', `${OWN}tick\n`);
+    await until('a script is played', () => at('last').textContent.startsWith('Line 8, 8 of 8: tick'));
+    choose('one.bin', Uint8Array.of(0, 1, 8, 4));
+    await until('a capture is listed', () => at('told').dataset.status === '1' && !at('captures').hidden);
+    is([at('listed').textContent, at('open-file').tagName], ['1 invalid 1 Short', 'BUTTON'], 'a capture');
+    at('to-scripts').click();
+}
+
+// Without a cause of its own, a line has the places of the run that have one, each of which is a button that goes there.
+async function courses() {
+    const named = () => [...at('cause').querySelectorAll('[data-goes]')].map((it) => it.textContent);
+    await goTo('#example=full_buffer&play', 'an example', () => at('last').textContent.includes('show'));
+    is(named().slice(0, 4), ['Open \u2192 Wait', 'S1 \u2192 S3', 'Wait \u2192 Open', 'S3 \u2192 S2'], 'the places of a run');
+    at('cause').querySelectorAll('[data-goes]')[1].click();
+    is(at('cause').textContent, 'S1 \u2192 S3 because of the CLCW of line 14: V(R) = 1, wait and retransmit, FARM-B 0.', 'a change');
+    has(at('last').textContent, 'Line ', 'a line that is gone to');
+    at('end').click();
+    at('cause').querySelector('[data-goes]').click();
+    is(at('cause').textContent, 'Open \u2192 Wait: a Type-AD frame, N(S) = V(R), no buffer is free.', 'a change on board');
+    await own(OWN);
+    is(at('cause').textContent, 'Nothing was sent again so far.', 'a run without such places');
 }
 
 async function files() {
@@ -251,7 +315,7 @@ async function causes() {
     const found = (selector) => at('ladder').querySelector(selector);
     await goTo('#example=lost_frame&play', 'an example', () => at('last').textContent.includes('show'));
     click(found('[data-step="15"] .place'));
-    const named = [...at('fop').querySelectorAll('.cause [data-goes]')];
+    const named = [...at('cause').querySelectorAll('.cause [data-goes]')];
     is(named.map((it) => it.textContent), ['line 20', 'line 15', 'line 16'], 'the lines of a cause');
     for (const it of named) is(it.tagName, 'BUTTON', 'a line that is named');
     named[1].click();
@@ -383,28 +447,31 @@ async function large() {
     }
     const digits = Array.from({ length: 60000 }, () => Math.floor(16 * Math.random()).toString(16)).join('');
     text = `# ${digits}\n${text}`; // which no compression makes short enough for an address
-    const times = slowness(), begun = performance.now(), isThere = (it) => at('last').textContent.startsWith(`Line ${it}`);
-    let opened;
-    const longest = await longestWait(async () => {
-        drop('large.script', text);
-        await until('50,001 lines are opened', () => lines().length > 100 && at('line').max === '50002');
-        opened = performance.now() - begun;
-        await until('50,001 lines are played', () => isThere(50001));
+    const isThere = (it) => at('last').textContent.startsWith(`Line ${it}`);
+    await within({ opened: 2000, played: 20000, longest: 2000 }, 'a script of 50,001 lines', async () => {
+        let opened;
+        await own();
+        const begun = performance.now(), longest = await longestWait(async () => {
+            drop('large.script', text);
+            await until('50,001 lines are opened', () => lines().length > 100 && at('line').max === '50002');
+            opened = performance.now() - begun;
+            await until('50,001 lines are played', () => isThere(50001));
+        });
+        return { opened, played: performance.now() - begun, longest };
     });
-    is(opened < 2000 * times ? 0 : [opened, times], 0, 'milliseconds to open 50,001 lines');
-    is(performance.now() - begun < 20000 * times ? 0 : [performance.now() - begun, times], 0, 'milliseconds to play them');
-    is(longest < 2000 * times ? 0 : [longest, times], 0, 'the longest wait meanwhile');
     is(at('lines').children.length < 500 && at('ladder').querySelectorAll('*').length < 5000, true, 'what is drawn');
-    for (const name of ['back', 'back', 'step', 'first', 'step', 'end', 'back']) {
+    const took = (act) => {
         const from = performance.now();
-        at(name).click();
-        const took = performance.now() - from;
-        is(took < 50 * times ? 0 : [took, times], 0, `milliseconds of ${name}`);
-    }
-    const from = performance.now();
-    document.querySelector('[data-line="tick"]').click();
-    const took = performance.now() - from, most = 1000 * slowness();
-    is(took < most ? 0 : [took, most], 0, 'milliseconds of an event in a large script');
+        act();
+        return performance.now() - from;
+    };
+    await within({ first: 50, step: 50, back: 50, end: 50 }, 'buttons in a large script', () => {
+        const names = ['back', 'back', 'step', 'first', 'step', 'end', 'back'], all = {};
+        for (const name of names) all[name] = Math.max(all[name] ?? 0, took(() => at(name).click()));
+        return all;
+    });
+    await within({ event: 1000 }, 'an event in a large script', () => (
+        { event: took(() => document.querySelector('[data-line="tick"]').click()) }));
     at('ladder').scrollTop = at('ladder').scrollHeight / 2;
     at('list').scrollTop = at('list').scrollHeight / 2;
     await until('the middle is drawn', () => lines().length > 0 && at('ladder').querySelector('[data-step="22500"]'));
@@ -459,7 +526,7 @@ async function still() {
     const { scrollingElement: page } = document;
     await goTo('#example=lost_frame&line=1', 'an example', () => at('step').getAttribute('aria-disabled') === 'false');
     at('first').click();
-    const seen = () => ['list', 'ladder', 'fop', 'events', 'states'].map((it) => Math.round(at(it).getBoundingClientRect().top));
+    const seen = () => ['list', 'ladder', 'cause', 'fop', 'events', 'states'].map((it) => Math.round(at(it).getBoundingClientRect().top));
     const before = seen();
     while (at('step').getAttribute('aria-disabled') === 'false') {
         at('step').click();
@@ -487,6 +554,9 @@ const ACTS = {
     'an example that is chosen': examples,
     'the address follows the script and the line': addresses,
     'the files Script, SVG and PNG': files,
+    'the page as a file, with the run': pages,
+    'a button that opens a file': opening,
+    'the places of a run, with their causes': courses,
     'the states on the ladder, and hints': states,
     'causes, and the rows after the chosen one': causes,
     'what if a frame is lost': whatIf,

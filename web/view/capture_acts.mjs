@@ -101,7 +101,7 @@ async function faults() {
     at('next-fault').click();
     await until('a fault', () => at('listed').querySelector('.found'));
     is(at('listed').querySelector('.found').textContent, '400008 invalid 6 Check', 'the first fault');
-    is(performance.now() - begun < 60000 * times, true, 'the first fault within a minute');
+    is(performance.now() - begun < 60000 * Math.max(times, slowness()), true, 'the first fault within a minute');
     await until('its record', () => at('record').textContent.includes('invalid 6 Check'));
     has(at('record').textContent, `Record 400008, from octet ${400007 * FRAMES.length} on: 15 octets`, 'the place of the record');
     at('next-fault').click();
@@ -123,11 +123,11 @@ async function records() {
 }
 
 async function hundred() {
-    const times = slowness(), parts = Array(100).fill(capture(66666));
-    const longest = await longestWait(() => open('hundred.bin', 'tc', ...parts));
+    const parts = Array(100).fill(capture(66666));
+    await within({ longest: 250 }, 'the longest wait while 100 MB are read', async () => (
+        { longest: await longestWait(() => open('hundred.bin', 'tc', ...parts)) }));
     is(listed().length, 1000, 'lines of 100 MB');
     is([...at('totals').querySelectorAll('dd')][0].textContent, '6666600', 'frames of 100 MB');
-    is(longest < 250 * times ? 0 : [longest, times], 0, 'the longest wait while 100 MB are read');
 }
 
 globalThis.CAPTURE_ACTS = {

@@ -41,15 +41,38 @@ export function againWords(player, { again } = {}) {
     return [`Sent again because of line ${player.lines[again] + 1}: ${cause}.${root}`];
 }
 
-// The CLCW that arrived, or was lost, and where it was sent; none where a frame went up.
-export function clcwWords({ lines }, { word, from } = {}) {
-    return word ? [`The CLCW of line ${lines[from] + 1}: ${reportWords(word)}.`] : [];
-}
-
 // The states of both machines where they become others: S1 to S3 at the ground, Open to Lockout on board.
 export function turnsOf({ before, after }) {
     const name = (of, one, other) => (one.state === other.state ? '' : `${of(one.state)} \u2192 ${of(other.state)}`);
     return { fop: name((it) => `S${it}`, before.fop, after.fop), farm: name((it) => FARM_MODES[it], before.farm, after.farm) };
+}
+
+// Why the last step is as it is, in words: why its frame is sent again, which CLCW arrived or was lost, and what led to
+// another state, which without a CLCW is an event of the standard (tables 5-1 and 6-1).
+export function causeWords(player, made) {
+    const { last, lines } = player, { before, rows = {}, sent, gone } = last;
+    if (before === undefined) return [];
+    const { fop, farm } = turnsOf(last), word = gone?.word, ends = [];
+    const clcw = word && `CLCW of line ${lines[gone.from] + 1}: ${reportWords(word)}.`;
+    const sender = made.fop[rows.fop?.event]?.[0] ?? last.line, receiver = made.farm[rows.farm?.event]?.[0] ?? last.line;
+    if (clcw) ends.push(fop ? `${fop} because of the ${clcw}` : `The ${clcw}`);
+    else if (fop) ends.push(`${fop}: ${sender}.`);
+    return [...againWords(player, sent), ...ends, ...farm ? [`${farm}: ${receiver}.`] : []];
+}
+
+// The places of a run at which frames are sent again, or states change other than by a directive: what happens, and the
+// line; so many at most, and one more where there are more. Steps that were looked at are not looked at again.
+export function placesOf(player, most) {
+    const { steps, lines, script, places } = player;
+    const it = player.places = places?.script === script && places.most === most ? places : { script, most, count: 0, found: [] };
+    for (; it.count < steps.length && it.found.length <= most; it.count++) {
+        const { sent, rows, before, after } = steps[it.count], isAsked = rows.fop?.part === 'the directives';
+        const isSame = before.fop.state === after.fop.state && before.farm.state === after.farm.state;
+        if (isSame && sent?.again === undefined) continue;
+        const { fop, farm } = turnsOf(steps[it.count]), again = sent?.again !== undefined && `${frameName(sent.frame)} again`;
+        it.found.push(...[again, !isAsked && fop, farm].filter(Boolean).map((name) => ({ name, line: lines[it.count] + 1 })));
+    }
+    return it.found.slice(0, most + 1);
 }
 
 // What both machines do in a script that was played: S2, S3, Wait and Lockout, where they go there, and the alerts.

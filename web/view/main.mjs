@@ -76,7 +76,7 @@ function bindPlayer(page) {
     const keys = { Home: 'first', ArrowLeft: 'back', ArrowRight: 'step', End: 'end', l: 'swap', z: 'undo' };
     const acts = {
         swap: () => page.swap(page.player.at - 1), undo: () => page.undo(), play: () => page.play(),
-        link: () => page.copyLink(), 'save-script': () => page.saveScript(), 'save-svg': () => page.savePicture('svg'),
+        link: () => page.copyLink(), 'save-page': () => page.savePage(), 'send-page': () => page.savePage(), 'save-script': () => page.saveScript(), 'save-svg': () => page.savePicture('svg'),
         'save-png': () => page.savePicture('png'),
     };
     for (const [name, by] of Object.entries(moves)) acts[name] = () => page.move(page.player.at + by);
@@ -87,7 +87,7 @@ function bindPlayer(page) {
     });
     at('lines').addEventListener('click', ({ target }) => page.runTo(Number(target.closest('li')?.dataset.line)));
     at('ladder').addEventListener('click', ({ target }) => page.click(target));
-    at('fop').addEventListener('click', ({ target }) => target.dataset.goes && page.runTo(Number(target.dataset.goes)));
+    at('cause').addEventListener('click', ({ target }) => target.dataset.goes && page.runTo(Number(target.dataset.goes)));
 }
 
 function bindScript(page) {
@@ -108,26 +108,35 @@ async function openScript(page, file) {
     page.replace(text, '', Infinity);
 }
 
-function bindDrops(page, captures) {
+// A file is a script by its name, or a capture.
+function takeFile(page, captures, file) {
+    page.pause();
+    if (/\.(script|txt)$/.test(file.name)) {
+        openScript(page, file);
+        return;
+    }
+    turnTo('captures');
+    captures.open(file);
+}
+
+function bindFiles(page, captures) {
     for (const name of ['dragover', 'dragleave', 'drop']) {
         addEventListener(name, (event) => {
             if (!event.dataTransfer?.types.includes('Files')) return;
             event.preventDefault();
             document.body.classList.toggle('dropping', name === 'dragover');
             if (name !== 'drop' || event.dataTransfer.files.length === 0) return;
-            page.pause();
-            const [file] = event.dataTransfer.files;
-            if (/\.(script|txt)$/.test(file.name)) {
-                openScript(page, file);
-                return;
-            }
-            turnTo('captures');
-            captures.open(file);
+            takeFile(page, captures, event.dataTransfer.files[0]);
         });
     }
+    at('open-file').addEventListener('click', () => at('any-file').click());
+    at('any-file').addEventListener('change', ({ target }) => {
+        if (target.files.length > 0) takeFile(page, captures, target.files[0]);
+        target.value = ''; // (so that the same file can be opened again)
+    });
 }
 
-// Binds the buttons of the views; and a file that is dropped anywhere is a script by its name, or a capture.
+// Binds the buttons of the views, and files that are opened, or dropped anywhere.
 function bindViews(views) {
     const { page, commands, captures, choosing } = views;
     at('to-scripts').addEventListener('click', () => {
@@ -153,7 +162,7 @@ function bindViews(views) {
         choosing.begin();
     });
     addEventListener('hashchange', ({ newURL }) => new URL(newURL).hash.length > 1 && begin(views, new URL(newURL).hash));
-    bindDrops(page, captures);
+    bindFiles(page, captures);
 }
 
 // Adds to the names of the examples what both machines do there; each is played for this.
@@ -168,7 +177,14 @@ async function describe(calls, examples) {
     }
 }
 
+// What the page begins with: its address, or what it was saved with.
+function asked() {
+    const { hash } = location, { begins } = document.documentElement.dataset;
+    return begins !== undefined && (hash.length < 2 || hash.startsWith('#long=')) ? begins : hash;
+}
+
 async function start() {
+    const whole = document.documentElement.cloneNode(true);
     const made = JSON.parse(at('made').textContent), option = (value, text) => new Option(text, value);
     const octets = Uint8Array.from(atob(at('module').textContent), (it) => it.charCodeAt(0));
     const calls = await load(new WebAssembly.Module(octets)), page = new Page(calls, made);
@@ -178,7 +194,8 @@ async function start() {
     use(calls); // (for the classes)
     const captures = new Captures(made, calls), choosing = new Choosing(calls), commands = new Commands(calls);
     const views = { page, captures, choosing, commands };
-    await begin(views, location.hash);
+    page.whole = whole;
+    await begin(views, asked());
     at('version').textContent = calls.sedge_version();
     bindPlayer(page);
     bindScript(page);

@@ -2,18 +2,17 @@
 import { eventOf, octetsOf } from '../link.mjs';
 import { Ladder } from './ladder.mjs';
 import { List } from './list.mjs';
-import { decoded, make, showMachines, showPromises, showTransit } from './panels.mjs';
+import { decoded, make, showCause, showMachines, showPromises, showTransit } from './panels.mjs';
 import { lostInTransit, swapped } from './plan.mjs';
 import { Player } from './player.mjs';
 import { promisesOf } from './promises.mjs';
 import { Runner } from './runner.mjs';
 import { countOf, placeOf } from './script.mjs';
-import { pictureOf, pngOf, save, scriptPart } from './share.mjs';
+import { pageOf, pictureOf, pngOf, save, scriptPart } from './share.mjs';
 import { KINDS, frameName, plural, reportName } from './words.mjs';
 
 const SWAPS = 'The frame of this line is lost, or arrives, instead; the rest is planned again (L)';
 const SWAPS_NONE = 'No frame arrives or is lost on this line: go to a line with up or down, or click an arrow';
-const FROM_DISK = 'The link opens only where this file is at the same path.';
 // What to do after a refusal.
 const ADVICE = {
     NothingInTransit: 'nothing is in transit WAY. Go to a line where a frame is, or click its arrow',
@@ -157,6 +156,7 @@ export class Page {
         this.shown = player.script;
         this.list.show(player);
         this.ladder.show(player, row);
+        showCause(at('cause'), player, this.made);
         showMachines(at('fop'), at('farm'), player, this.made);
         showTransit(at('transit'), this.calls, player.inTransit(last));
         showPromises(at('promises'), promisesOf(this.calls, last));
@@ -301,18 +301,25 @@ export class Page {
 
     async copyLink() {
         const address = await this.address();
-        let said = 'Too long: save Script';
+        let said = 'Too long: save Page';
         if (address !== null) {
             history.replaceState(null, '', address);
             said = await navigator.clipboard?.writeText(location.href).then(() => 'Copied', () => null) ?? 'In the address bar';
         }
         at('link').textContent = said;
-        if (address !== null && location.protocol === 'file:') this.remark(FROM_DISK);
+        at('sharing').hidden = location.protocol !== 'file:';
         setTimeout(() => { at('link').textContent = 'Copy link'; }, 2500);
     }
 
     saveScript() {
         save(`${at('example').value || 'own'}.script`, 'text/plain', this.text);
+    }
+
+    // Saves this page, so that it begins with what is shown, whatever its address is.
+    async savePage() {
+        const { player } = this, line = player.at > 0 ? `&line=${player.lines[player.at - 1] + 1}` : '';
+        const address = await this.address() ?? `#script=${encodeURIComponent(player.text)}${line}`;
+        save(`${at('example').value || 'own'}.html`, 'text/html', pageOf(this.whole, address));
     }
 
     async savePicture(kind) {

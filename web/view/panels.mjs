@@ -1,14 +1,14 @@
 // What stands beside the ladder: both machines, the rows of their tables, what is on its way, what is promised, and
 // octets that are read.
 import { numbers as n } from '../sedgechisel.mjs';
-import { againWords, clcwWords } from './hints.mjs';
+import { causeWords, placesOf } from './hints.mjs';
 import { frameName, frameWords, reportName, reportWords } from './words.mjs';
 
 const FOP_STATES = [
     '', 'S1 Active', 'S2 Retransmit without wait', 'S3 Retransmit with wait', 'S4 Initialising without BC',
     'S5 Initialising with BC', 'S6 Initial',
 ];
-const MOST = 50; // frames that are listed each way
+const MOST = 50, MOST_PLACES = 7; // frames that are listed each way, and places of a run
 const FARM_STATES = ['Open', 'Wait', 'Lockout'];
 // The variables of both machines: a name, and what it is.
 const FOP = [
@@ -55,23 +55,32 @@ function worded(title, words) {
     return make('p', '', make('b', 'event', title), ` ${words}`);
 }
 
-// Words in which each line that is named is a button that goes there.
-function linked(words) {
-    return words.split(/(\bline \d+)/).map((it, k) => {
-        if (k % 2 === 0) return it;
-        const button = make('button', 'link', it);
-        button.dataset.goes = it.slice(5);
-        button.title = `Go to ${it}`;
-        return button;
-    });
+// A button that goes to a line.
+function goes(name, line) {
+    const button = make('button', 'link', name);
+    button.dataset.goes = line;
+    button.title = `Go to line ${line}`;
+    return button;
 }
 
-// The event of FOP-1 and the rule of the profile, with what led to them; where there is no rule, what the profile says
-// of the event.
-function fopRow(row, causes, { fop, rules }) {
+// Words in which each line that is named is a button that goes there.
+const linked = (words) => words.split(/(\bline \d+)/).map((it, k) => (k % 2 === 0 ? it : goes(it, it.slice(5))));
+
+// Why the last line did what it did; where there is nothing to say, the places of the run that have a cause.
+export function showCause(box, player, made) {
+    const words = causeWords(player, made), places = words.length > 0 ? [] : placesOf(player, MOST_PLACES);
+    const named = places.slice(0, MOST_PLACES).map(({ name, line }, k) => [k > 0 ? ', ' : '', goes(name, line)]);
+    const more = places.length > MOST_PLACES ? ' ..' : '';
+    const none = player.steps.length > 0 ? 'Nothing was sent again so far.' : '';
+    const course = named.length > 0 ? [make('p', '', 'See why: ', named, more)] : [make('p', 'none', none)];
+    box.replaceChildren(...words.length > 0 ? words.map((it) => make('p', 'cause', linked(it))) : course);
+}
+
+// The event of FOP-1 and the rule of the profile; where there is no rule, what the profile says of the event.
+function fopRow(row, { fop, rules }) {
     const [book, here] = fop[row?.event] ?? [], rule = rules[row?.part]?.[row.rule - 1];
     if (!row) return make('p', 'none', 'No event of the sender.');
-    return make('div', 'row', causes.map((it) => make('p', 'cause', linked(it))), book ? worded(row.event, book) : '',
+    return make('div', 'row', book ? worded(row.event, book) : '',
         rule ? worded(`Rule ${row.rule} of ${row.part}`, rule) : here ? worded('Here', here) : '');
 }
 
@@ -83,9 +92,8 @@ function farmRow(row, state, { farm, cells }) {
 }
 
 export function showMachines(fop, farm, player, made) {
-    const { after, before = after, rows = {}, sent, gone } = player.last;
-    const causes = [...againWords(player, sent), ...clcwWords(player, gone)];
-    fop.replaceChildren(...machine(FOP_STATES, FOP, before.fop, after.fop), fopRow(rows.fop, causes, made));
+    const { after, before = after, rows = {} } = player.last;
+    fop.replaceChildren(...machine(FOP_STATES, FOP, before.fop, after.fop), fopRow(rows.fop, made));
     const taken = farmRow(rows.farm, before.farm.state, made);
     farm.replaceChildren(...machine(FARM_STATES, FARM, before.farm, after.farm), taken);
 }

@@ -30,6 +30,12 @@ export async function scriptPart(text) {
     return letters.length <= LONGEST_ADDRESS ? `packed=${letters}` : null;
 }
 
+// The page as it was before its program began, as a file that begins with what an address says.
+export function pageOf(whole, address) {
+    whole.dataset.begins = address;
+    return `<!doctype html>\n${whole.outerHTML}\n`;
+}
+
 // A drawing of the page as a file of its own: its rules, with the colours that they have now.
 export function pictureOf(svg) {
     const to = svg.cloneNode(true), shown = getComputedStyle(document.documentElement);

@@ -10,7 +10,7 @@ import { COMMANDS, GUIDE, Run, dueWords, recordAt } from './board.mjs';
 import { wholeFrames } from './captures.mjs';
 import { choices, expected } from './choosing.mjs';
 import { faultOf, faultWords, isMostlyChecked, passWords } from './faults.mjs';
-import { againWords, courseWords } from './hints.mjs';
+import { againWords, causeWords, courseWords, placesOf } from './hints.mjs';
 import { swapped } from './plan.mjs';
 import { Player } from './player.mjs';
 import { promisesOf } from './promises.mjs';
@@ -390,12 +390,36 @@ function causes() {
     });
 }
 
+// What led to another state, at each place of a run that has a cause; directives are none.
+function changes() {
+    const made = { fop: { E17: ['the timer ends'] }, farm: { E2: ['no buffer'], E10: ['a buffer is released'], E5: ['in neither window'] } };
+    const wanted = {
+        full_buffer: ['Open \u2192 Wait: no buffer.', 'S1 \u2192 S3 because of the CLCW of line 14: V(R) = 1, wait and retransmit, FARM-B 0.'],
+        lockout: ['Open \u2192 Lockout: in neither window.'],
+    };
+    for (const [name, words] of Object.entries(wanted)) {
+        const player = new Player(calls), found = [];
+        player.load(readFileSync(`examples/${name}.script`, 'latin1'));
+        assert.deepEqual([causeWords({ last: player.begin, lines: [] }, made), placesOf(player, 9)], [[], []]);
+        player.goTo(Infinity);
+        for (const { name: place, line } of placesOf(player, 99)) {
+            player.goTo(player.lines.indexOf(line - 1) + 1);
+            found.push(...causeWords(player, made));
+            assert.ok(found.at(-1).startsWith(place.endsWith('again') ? 'Sent again' : place), found.at(-1));
+        }
+        for (const it of words) assert.ok(found.includes(it), `${it}: ${found.join(' ')}`);
+        assert.equal(placesOf(player, 1).length, 2);
+        player.link.close();
+    }
+}
+
 reads();
 restarts();
 whole();
 faults();
 courses();
 causes();
+changes();
 uncleanSession();
 formulas();
 for (const file of files) plays(file);
