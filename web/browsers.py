@@ -6,6 +6,7 @@ import contextlib
 import fcntl
 import json
 import os
+import select
 import shutil
 import signal
 import socket
@@ -65,6 +66,8 @@ class Chromium:
         os.write(self.to, json.dumps(asked).encode() + b"\0")
         while True:
             while b"\0" not in self.rest:
+                if not select.select([self.back], [], [], SECONDS)[0]:
+                    raise TimeoutError("the browser does not answer")
                 part = os.read(self.back, 1 << 20)
                 if not part:
                     raise EOFError("the browser ended")
@@ -118,20 +121,22 @@ class Firefox:
     @classmethod
     @contextlib.contextmanager
     def opened(cls, program, room):
-        with socket.socket() as it:
-            it.bind(("127.0.0.1", 0))
-            port = it.getsockname()[1]
         with open(f"{room}/user.js", "w", encoding="utf-8") as it:
-            it.write(f'user_pref("marionette.port", {port});\n')
+            it.write('user_pref("marionette.port", 0);\n')  # (a free one, which it then writes)
         words = ["--headless", "--marionette", "--no-remote", "--profile", room]
         with started([program, *words], env={**os.environ, "MOZ_HEADLESS": "1", "HOME": room}):
-            for _ in range(SECONDS * 10):
-                with contextlib.suppress(OSError):
-                    with socket.create_connection(("127.0.0.1", port)) as connected:
-                        yield cls(connected.makefile("rwb"))
-                        return
-                time.sleep(0.1)
-            raise EOFError("the browser does not answer")
+            with cls.connected_to(f"{room}/MarionetteActivePort") as connected:
+                yield cls(connected.makefile("rwb"))
+
+    @staticmethod
+    def connected_to(file):
+        """The connection to the port in a file, once it is there."""
+        for _ in range(SECONDS * 10):
+            with contextlib.suppress(OSError, ValueError):
+                with open(file, encoding="ascii") as it:
+                    return socket.create_connection(("127.0.0.1", int(it.read())), SECONDS)
+            time.sleep(0.1)
+        raise EOFError("the browser does not answer")
 
     def message(self):
         digits = b""

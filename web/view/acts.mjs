@@ -183,8 +183,10 @@ async function addresses() {
     await own();
     await goTo(hash, 'a compressed script', () => at('last').textContent.startsWith('Line 507'));
     is(at('text').value, long, 'the script of a compressed address');
+    const said = [];
+    new MutationObserver(() => said.push(at('link').textContent)).observe(at('link'), { childList: true });
     at('link').click();
-    await until('a link is copied', () => /^(Copied|In the address bar)$/.test(at('link').textContent));
+    await until('a link is copied', () => /^(Copied|In the address bar)$/.test(said[0]));
     is(location.hash, hash, 'the address of the link');
     is(at('sharing').hidden, location.protocol !== 'file:', 'what to send instead of a link to a file');
     has(at('sharing').textContent, 'send a colleague this page with this run', 'what to send');

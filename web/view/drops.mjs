@@ -17,6 +17,18 @@ async function until(what, holds) {
     throw new Error(`${what}: ${at('told').textContent} ${at('said').textContent}`);
 }
 
+// Ends as soon as a progress is above 0, however late this program is given the processor.
+function moves(progress) {
+    return new Promise((end) => {
+        const look = (_, it) => {
+            if (progress.hidden || progress.value === 0) return;
+            it.disconnect();
+            end();
+        };
+        new MutationObserver(look).observe(progress, { attributes: true });
+    });
+}
+
 function set(name, value) {
     const input = at(`help-${name}`).parentElement.querySelector('input');
     if (input.type === 'checkbox') input.checked = value;
@@ -43,8 +55,9 @@ async function go() {
     set('scid', '1024');
     await until('a refused number', () => at('told').dataset.status === '2' && !at('said').hidden);
     set('scid', '');
+    const isMoving = moves(at('progress'));
     drop('larger.bin', 1 << 20);
-    await until('a run', () => !at('progress').hidden && at('progress').value > 0);
+    await isMoving;
     at('stop').click();
     await until('a run that is stopped', () => at('told').textContent === 'Stopped.' && at('progress').hidden);
     drop('large.bin', TIMES);
