@@ -94,6 +94,25 @@ async function kinds() {
     is(at('typed').textContent, 'tctool farm mixed.bin', 'another command');
 }
 
+// The first fault is looked for while the page can be used, and Stop ends this.
+async function searches() {
+    const looks = new Promise((end) => {
+        new MutationObserver((_, it) => {
+            if (!at('first-words').textContent.startsWith('Looking')) return;
+            it.disconnect();
+            end();
+        }).observe(at('first-words'), { childList: true });
+    });
+    open('searched.bin', 'tc', ...Array(9).fill(capture(100000)), capture(100000, 7));
+    await looks;
+    is([at('stop').getAttribute('aria-disabled'), at('next-fault').getAttribute('aria-disabled')], ['false', 'false'], 'Stop, and a button');
+    at('stop').click();
+    is(at('first-found').textContent, 'Stopped: the first fault is not known.', 'what is said after Stop');
+    is([at('stop').getAttribute('aria-disabled'), listed().length], ['true', 1000], 'the lines after Stop');
+    at('next-fault').click();
+    await until('a fault', () => at('listed').querySelector('.found')?.textContent === '900008 invalid 6 Check');
+}
+
 async function faults() {
     const times = slowness(), begun = performance.now();
     await open('faults.bin', 'farm', ...Array(4).fill(capture(100000)), capture(100000, 7, 90));
@@ -134,6 +153,7 @@ globalThis.CAPTURE_ACTS = {
     'frames that pass a check are listed with it': hints,
     'the first fault after a million octets without one': hurried,
     'what is said of captures of each kind': kinds,
+    'the first fault is looked for, until Stop': searches,
     'the first bad frame of a capture, and the next one': faults,
     'the octets of a line, and the line of a total': records,
     'a capture of 100,000,000 octets': hundred,

@@ -149,8 +149,9 @@ export class Captures {
 
     // Lists the file anew: its totals, then its lines from the first one on, and which is the first with a fault.
     list() {
+        for (const it of [this.searcher, this.looker]) it.stop();
+        this.isSearching = false;
         this.stop();
-        this.searcher.stop();
         if (this.file === undefined) return undefined;
         this.name = this.file.name.startsWith('-') ? `./${this.file.name}` : this.file.name;
         for (const name of ['totals', 'listed', 'record']) at(name).replaceChildren();
@@ -248,16 +249,18 @@ export class Captures {
     }
 
     async search(pattern, file) {
-        const searching = this.searcher.run({ words: [...this.words(), this.name], file, finds: pattern }, () => {});
+        this.isSearching = true;
         at('stop').setAttribute('aria-disabled', false);
-        const { place, line } = await searching;
+        const { place, line } = await this.searcher.run({ words: [...this.words(), this.name], file, finds: pattern }, () => {});
+        this.isSearching = false;
         at('stop').setAttribute('aria-disabled', !this.runner.isRunning);
         return place === undefined ? undefined : { place, line };
     }
 
     stopSearch() {
-        if (!this.searcher.isRunning) return;
+        if (!this.isSearching) return;
         this.searcher.stop();
+        this.isSearching = false;
         this.end();
         this.tellFirst('Stopped: the first fault is not known.');
     }
@@ -413,7 +416,7 @@ export class Captures {
 
     end() {
         at('progress').hidden = true;
-        at('stop').setAttribute('aria-disabled', !this.searcher.isRunning);
+        at('stop').setAttribute('aria-disabled', !this.isSearching);
         at('earlier').setAttribute('aria-disabled', !(this.starts?.length > 1));
         at('later').setAttribute('aria-disabled', this.later === undefined);
         at('next-fault').setAttribute('aria-disabled', this.file === undefined);
