@@ -111,6 +111,9 @@ async function searches() {
     is([at('stop').getAttribute('aria-disabled'), listed().length], ['true', 1000], 'the lines after Stop');
     at('next-fault').click();
     await until('a fault', () => at('listed').querySelector('.found')?.textContent === '900008 invalid 6 Check');
+    await open('interrupted.bin', 'tc', capture(100000, 99990), () => at('totals').querySelector('button'));
+    at('totals').querySelector('button').click(); // (which may end the reading of the first lines)
+    await until('the first fault', () => at('first-fault').textContent === 'The first frame with a fault is frame 99991 of 100000: 6 Check');
 }
 
 async function faults() {

@@ -156,7 +156,7 @@ export class Captures {
         this.name = this.file.name.startsWith('-') ? `./${this.file.name}` : this.file.name;
         for (const name of ['totals', 'listed', 'record']) at(name).replaceChildren();
         const listing = {};
-        Object.assign(this, { listing, found: undefined, totals: {} });
+        Object.assign(this, { listing, found: undefined, totals: {}, counted: undefined, hasLooked: false });
         this.say('');
         this.tellFirst('');
         return this.attempt(async () => {
@@ -232,15 +232,17 @@ export class Captures {
         if (at('next-fault').getAttribute('aria-disabled') !== 'true') this.find(faultOf(this.asked), 'fault');
     }
 
-    // Says which record is the first with a fault. Where it is not among the lines that are shown, it is looked for
-    // beside what else is done.
+    // Says which record is the first with a fault, unless this was done. Where it is not among the lines that are shown,
+    // it is looked for beside what else is done.
     async findFirst() {
-        const { totals, file, asked, counted: { status, said } } = this, pattern = faultOf(asked);
+        const { totals, file, asked, starts } = this, { status = 2, said } = this.counted ?? {}, pattern = faultOf(asked);
         const context = { command: this.command.name, asked, isPlain: this.lacksCheck };
-        if (status > 1) return;
+        if (this.hasLooked || status > 1) return;
         let found;
+        this.hasLooked = true;
         if (totals.invalid || totals.skipped) {
-            const shown = [...at('listed').children].map((it) => it.textContent), place = shown.findIndex((it) => new RegExp(pattern).test(it));
+            const shown = starts?.length === 1 ? [...at('listed').children].map((it) => it.textContent) : [];
+            const place = shown.findIndex((it) => new RegExp(pattern).test(it));
             this.tellFirst('Looking for the first fault.');
             found = place < 0 ? await this.search(pattern, file) : { place, line: shown[place] };
         }
@@ -287,9 +289,10 @@ export class Captures {
                 this.end();
                 const what = name !== 'fault' ? name : `a fault${this.lacksCheck ? ' without --check' : ''}`;
                 at('told').textContent = `No ${after === 0 ? '' : 'later '}line has ${what}.`;
-                return;
+            } else {
+                await this.showFound({ pattern, place });
             }
-            await this.showFound({ pattern, place });
+            await this.findFirst();
         });
     }
 
@@ -352,7 +355,10 @@ export class Captures {
     }
 
     show(starts) {
-        return this.attempt(() => this.showLines(starts));
+        return this.attempt(async () => {
+            await this.showLines(starts);
+            await this.findFirst();
+        });
     }
 
     // Shows lines from the last of these starts on, each the number of lines before a part that was shown.
