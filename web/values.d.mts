@@ -53,7 +53,7 @@ export function receivedOf(it: Partial<import('./sedgechisel.mjs').sedge_receive
  */
 /**
  * @param {Partial<import('./sedgechisel.mjs').sedge_heard>} it
- * @param {Uint8Array} [ocf] the octets of the control word
+ * @param {Uint8Array} [ocf] the octets of the CLCW
  * @returns {Heard}
  */
 export function heardOf(it: Partial<import('./sedgechisel.mjs').sedge_heard>, ocf?: Uint8Array | undefined): Heard;
@@ -124,7 +124,7 @@ export class Alert {
     showsABrokenCondition: boolean;
     toString(): string;
 }
-/** A communications link control word (232.0-B-4, 4.2), which reports on the receiver. */
+/** A communications link control word, CLCW (232.0-B-4, 4.2): the report on the receiver. */
 export class Clcw {
     /**
      * Reads four octets as a CLCW.

@@ -161,12 +161,12 @@ export function alertOf(number) {
     return number === 0 ? null : new Alert(number);
 }
 
-// ---- Control words. ----
+// ---- CLCWs. ----
 
 const FLAGS = { retransmit: 0x08, wait: 0x10, lockout: 0x20, noBitLock: 0x40, noRf: 0x80 };
 const FIELDS = ['status', 'vcid', 'flags', 'farmB', 'value'];
 
-/** A communications link control word (232.0-B-4, 4.2), which reports on the receiver. */
+/** A communications link control word, CLCW (232.0-B-4, 4.2): the report on the receiver. */
 export class Clcw {
     /**
      * @param {{ status?: number, vcid?: number, flags?: number, farmB?: number, value?: number }} [fields] those that are
@@ -286,7 +286,7 @@ export function receivedOf(it) {
 
 /**
  * @param {Partial<import('./sedgechisel.mjs').sedge_heard>} it
- * @param {Uint8Array} [ocf] the octets of the control word
+ * @param {Uint8Array} [ocf] the octets of the CLCW
  * @returns {Heard}
  */
 export function heardOf(it, ocf) {

@@ -1,7 +1,7 @@
 """Sedgechisel for Python: both ends of the CCSDS telecommand link with COP-1, over a library whose calls are proved.
 (The package itself, and the portable C that `pip` compiles from the sources, are tested, not proved.)
 
-- Codecs: the FECF of frames, telecommand frames (`TcFrame`), space packets (`Packet`), control words (`Clcw`) and
+- Codecs: the FECF of frames, telecommand frames (`TcFrame`), space packets (`Packet`), CLCWs (`Clcw`) and
   telemetry frames (`TmFrame`).
 - Machines: the receiver FARM-1 (`Farm`), the sender FOP-1 (`Fop`), packets in segments (`Map`, `segments`), and packets
   in telemetry frames (`TmBuilder`, `TmExtractor`). `GapCheck` counts missing packets.

@@ -157,7 +157,7 @@ def check_holds(octets: Octets) -> bool:
     return bool(_check_holds(octets, len(octets)))
 
 
-# ---- Control words ----
+# ---- CLCWs ----
 
 
 class Flags(_Bits):
@@ -176,7 +176,7 @@ def _flag(name: str, bit: Flags, note: str) -> Any:
 
 @_typed(flags={bits: Flags(bits) for bits in range(0, 256, Flags.RETRANSMIT)})
 class Clcw(_Struct):
-    """A communications link control word (232.0-B-4, 4.2).
+    """A communications link control word, CLCW (232.0-B-4, 4.2).
 
     - `status`, 0 to 7, is carried and not interpreted; `vcid`, 0 to 63, is the channel that the CLCW reports on
     - `flags`, a Flags; `no_rf`, `no_bit_lock`, `lockout`, `wait` and `retransmit` are its flags, each True or False
@@ -200,7 +200,7 @@ class Clcw(_Struct):
 
     @classmethod
     def decode(cls, octets: Octets) -> Clcw:
-        """Reads four octets. Raises ClcwFault if they are not a control word, or not four."""
+        """Reads four octets. Raises ClcwFault if they are not a CLCW, or not four."""
         octets, word = _octets_of("octets", octets), cls._C()
         ClcwFault._look_at(_clcw_decode(octets, len(octets), word))
         return cls._of(word)

@@ -76,7 +76,7 @@ class CheckFault(Fault):
 
 
 class ClcwFault(Fault):
-    """Why a control word is refused (232.0-B-4)."""
+    """Why a CLCW is refused (232.0-B-4)."""
 
     class Number(Numbers):
         KIND, VERSION, COP, SPARE, RANGE, WRONG_COUNT, DAMAGED = *range(1, 6), 254, 255

@@ -1,9 +1,9 @@
-//! The communications link control word, of four octets (CCSDS 232.0-B-4, 4.2).
+//! The communications link control word (CLCW), of four octets (CCSDS 232.0-B-4, 4.2).
 
 use crate::ffi;
 
 faults! {
-    /// Why a control word is refused (CCSDS 232.0-B-4).
+    /// Why a CLCW is refused (CCSDS 232.0-B-4).
     ClcwFault {
         Kind = 1, "the control word type is not 0 (4.2.1.2)";
         Version = 2, "the version number is not 00 (4.2.1.3)";
@@ -13,7 +13,7 @@ faults! {
     }
 }
 
-/// A communications link control word (CCSDS 232.0-B-4, 4.2).
+/// A communications link control word, CLCW (CCSDS 232.0-B-4, 4.2).
 #[derive(Clone, Copy, Debug, Default, PartialEq, Eq, Hash)]
 pub struct Clcw {
     /// The status field, 3 bits, carried and not interpreted.
