@@ -74,9 +74,9 @@ export class Action {
      */
     readonly content: Uint8Array;
 }
-/** Decides on board which command is executed next: each once and in order, over restarts at any moment. It does no
- * input or output. The program completes the action that `next` returns, and calls `done`, before it calls `next`
- * again. */
+/** Decides on board which command is executed next: each at most once and in order, over restarts at any moment. It
+ * does no input or output. The program completes the action that `next` returns, and calls `done`, before it calls
+ * `next` again. */
 export class Executor {
     /**
      * Starts with the octets at the two places in memory that survives restarts; pass no octets for a place that cannot

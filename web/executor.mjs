@@ -1,6 +1,6 @@
-// Commands that are executed once and in order on board, over restarts at any moment, for JavaScript: the board's half
-// (Executor), and the codecs of the ground. Names are those of the package for Python in camel case. The comments of
-// the methods of Executor are those of c/include/sedgechisel.h, which web/bindings writes here.
+// Commands that are executed at most once and in order on board, over restarts at any moment, for JavaScript: the
+// board's half (Executor), and the codecs of the ground. Names are those of the package for Python in camel case. The
+// comments of the methods of Executor are those of c/include/sedgechisel.h, which web/bindings writes here.
 import { octetsOf } from './arguments.mjs';
 import { members } from './meanings.mjs';
 import { numbers as n } from './sedgechisel.mjs';
@@ -52,9 +52,9 @@ export class Action {
     }
 }
 
-/** Decides on board which command is executed next: each once and in order, over restarts at any moment. It does no
- * input or output. The program completes the action that `next` returns, and calls `done`, before it calls `next`
- * again. */
+/** Decides on board which command is executed next: each at most once and in order, over restarts at any moment. It
+ * does no input or output. The program completes the action that `next` returns, and calls `done`, before it calls
+ * `next` again. */
 export class Executor {
     /** @type {Partial<import('./sedgechisel.mjs').sedge_log>} */
     #log = {};

@@ -758,8 +758,8 @@ SEDGE_CHECK uint8_t sedge_map_count(const uint8_t *octets, size_t count, const s
 SEDGE_CHECK uint8_t sedge_map_segment(const uint8_t *octets, size_t count, const struct sedge_limits *limits,
                                       size_t k, uint8_t *flags, struct sedge_part *data);
 
-/* ---- Commands that are executed once and in order on board, over restarts at any moment (docs/PROFILE.md, "Commands
- * that are executed once"). ---- */
+/* ---- Commands that are executed at most once and in order on board, over restarts at any moment (docs/PROFILE.md,
+ * "Commands that are executed once"). ---- */
 
 /* Why octets of a board's commands are refused, or the board drops a command or an order. */
 enum sedge_log_fault {

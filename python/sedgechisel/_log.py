@@ -1,5 +1,5 @@
-"""Commands that are executed once and in order on board, over restarts at any moment: the board's part, and the codecs
-of the ground."""
+"""Commands that are executed at most once and in order on board, over restarts at any moment: the board's part, and the
+codecs of the ground."""
 from __future__ import annotations
 
 import ctypes
@@ -51,10 +51,10 @@ class Action(NamedTuple):
 
 
 class Executor(Single):
-    """Decides on board which command is executed next: each once and in order, over restarts at any moment. It does no
-    input or output. Pass it the octets at the two places in memory that survives restarts (no octets for a place that
-    cannot be read), and a `mark` that differs at each start, from a clock or at random: if neither place has a record,
-    it is the mark of this loss. A new board has `new_record()` at both places.
+    """Decides on board which command is executed next: each at most once and in order, over restarts at any moment. It
+    does no input or output. Pass it the octets at the two places in memory that survives restarts (no octets for a
+    place that cannot be read), and a `mark` that differs at each start, from a clock or at random: if neither place has
+    a record, it is the mark of this loss. A new board has `new_record()` at both places.
 
     The program must complete the action that `next` returns, and call `done`, before it calls `next` again."""
 

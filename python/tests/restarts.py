@@ -1,4 +1,4 @@
-"""Commands that are executed once and in order on board, over restarts: octets worked out by struct and zlib."""
+"""Commands that are executed at most once and in order on board, over restarts: octets from struct and zlib."""
 import random
 import struct
 import zlib

@@ -12,8 +12,8 @@
 //!   borrows its data from the octets.
 //! - A machine is a type that `new` creates, with a call for each event: [`Farm`], [`Fop`], [`Map`], [`TmBuilder`],
 //!   [`TmExtractor`].
-//! - An [`Executor`] decides what a board executes next, once and in order over restarts; the ground has
-//!   [`BoardStatus`], [`command_packet`], [`LogOrder`] and [`history_after`].
+//! - An [`Executor`] decides what a board executes next, at most once and in order over restarts; the
+//!   ground has [`BoardStatus`], [`command_packet`], [`LogOrder`] and [`history_after`].
 //! - A refused call returns an `Err` with a small enum of faults, which have the numbers and names of sedgechisel.h.
 //!
 //! ```

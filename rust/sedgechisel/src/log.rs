@@ -1,5 +1,5 @@
-//! Commands that are executed once and in order on board, over restarts at any moment: the board's part, and the
-//! ground's codecs.
+//! Commands that are executed at most once and in order on board, over restarts at any moment: the board's part, and
+//! the ground's codecs.
 
 use crate::ffi;
 use crate::numbers::{done, never};
@@ -42,8 +42,8 @@ pub enum LogAction {
     Restart,
 }
 
-/// Decides on board which command is executed next: each once and in order, over restarts at any moment. It does no
-/// input or output, and needs no memory.
+/// Decides on board which command is executed next: each at most once and in order, over restarts at any moment. It
+/// does no input or output, and needs no memory.
 ///
 /// ```
 /// use sedgechisel::{Executor, LogAction, LogPlace};

@@ -1,4 +1,5 @@
-//! Commands that are executed once and in order on board, over restarts: octets worked out by Python's struct and zlib.
+//! Commands that are executed at most once and in order on board, over restarts: octets worked out by Python's struct
+//! and zlib.
 
 use crate::common::octets_of;
 use sedgechisel::*;
