@@ -105,15 +105,15 @@ class Directive(typing.NamedTuple):
 
 
 def directives(headers):
-    """The directives of the sources, with the notes of the header: what each does, then `; or N ..`."""
-    faults = {int(number): camel(name.removeprefix("SEDGE_COP_").lower())
-              for name, number in enumerations(headers)["cop_fault"].items()}
+    """The directives of the sources, with the notes of the header: what each does, then `; SEDGE_COP_.. ..`."""
+    numbers = enumerations(headers)["cop_fault"]
     notes = meanings(headers)["directive"].values()
     for (name, holds), note in zip(variants("crates/cop1/src/vocabulary.rt", "Directive"), notes, strict=True):
         value = name.split("_")[-1] if holds else ""
-        does, number, when = re.fullmatch(r"(.*); or (\d) (.*)", note).groups()
-        yield Directive(name, holds[1:], value, re.sub(r"\bvalue\b", f"`{value}`", does), f"{number} NAME {when}",
-                        faults[int(number)])
+        does, fault, when = re.fullmatch(r"(.*); (SEDGE_COP_\w+) (.*)", note).groups()
+        does = re.sub(r"\bvalue\b", f"`{value}`", does)
+        yield Directive(name, holds[1:], value, does, f"{numbers[fault]} NAME {when}",
+                        camel(fault.removeprefix("SEDGE_COP_").lower()))
 
 
 def in_place(place, made, text):

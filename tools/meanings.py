@@ -63,8 +63,9 @@ def answers_of(headers, calls):
 
     def numbers(call):
         said, found = " ".join(returned_words(call)), {0}
-        for first, last, own in re.findall(r"(\d+) to (\d+) of sedge_(\w+)", said):
-            found |= {it for it in known[own] if int(first) <= it <= int(last)}
+        for ranges, own in re.findall(r"((?:\d+ to \d+ and )*\d+ to \d+) of sedge_(\w+)", said):
+            for first, last in re.findall(r"(\d+) to (\d+)", ranges):
+                found |= {it for it in known[own] if int(first) <= it <= int(last)}
         for own in re.findall(r"(?<!\d of )\b(?:sedge|SEDGE)_(\w+)", said):
             found |= known.get(own, set())
         for own in re.findall(r"what sedge_(\w+) does", said):

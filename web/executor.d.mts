@@ -111,8 +111,8 @@ export class Executor {
     /**
      * Takes the octets of an order that arrived. An order to restart makes RESTART the next action. A board that has
      * lost its record continues with the one that the order brings, if the order has the mark of this loss. Throws
-     * LogFault, and changes nothing, for any other packet, which is dropped: 1 Layout, then 2 Check; of a restart 3
-     * Starting, 4 Busy or 5 Lost, then 8 OtherBoot; of a record 9 NotLost, then 10 OtherMark.
+     * LogFault, and changes nothing, for any other packet, which is dropped: 1 Layout, then 2 Check; then for a restart
+     * 3 Starting, 4 Busy or 5 Lost, and then 8 OtherBoot; for a record 9 NotLost, and then 10 OtherMark.
      * @param {Uint8Array} octets
      */
     obey(octets: Uint8Array): void;

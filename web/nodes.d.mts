@@ -71,8 +71,8 @@ export class Directing extends Handle {
     /** Directive: initiate with Unlock: S6 to S5, and Unlock is sent. Throws CopFault 8 (WrongState) unless in S6. */
     initUnlock(): void;
     /**
-     * Directive: initiate with Set V(R): S6 to S5, V(S) and NN(R) to `vr`, and Set V(R) is sent. Throws CopFault 8
-     * (WrongState) unless in S6.
+     * Directive: initiate with Set V(R): S6 to S5, V(S) and NN(R) are set to `vr`, and Set V(R) is sent. Throws
+     * CopFault 8 (WrongState) unless in S6.
      * @param {number} vr
      */
     initSetVr(vr: number): void;
@@ -82,7 +82,7 @@ export class Directing extends Handle {
      */
     terminate(): void;
     /**
-     * Directive: set V(S), and NN(R) too, to `vs`. Throws CopFault 8 (WrongState) unless in S6.
+     * Directive: set both V(S) and NN(R) to `vs`. Throws CopFault 8 (WrongState) unless in S6.
      * @param {number} vs
      */
     setVs(vs: number): void;
@@ -125,8 +125,8 @@ export class Ground extends Directing {
     get kept(): KeptGround;
     /**
      * Submits one packet on a MAP under sequence control, or several if blocking is on. sedge_map_count returns the
-     * number of their segments. The promise that `resume` counts a submission correctly covers one packet, and packets
-     * that share one segment. Throws the first of LinkFault 1 to 5 that applies, or LinkFault 6 (Memory).
+     * number of their segments. `resume` is promised to count correctly only the submissions that are one packet, or
+     * packets that share one segment. Throws the first of LinkFault 1 to 5 that applies, or LinkFault 6 (Memory).
      * @param {number} map
      * @param {Uint8Array} packets
      * @returns {number} the number of this submission in its session, from 0
@@ -221,51 +221,52 @@ export class Ground extends Directing {
     tick(): Alert | null;
     /**
      * Returns how many of the segments that were sent and not acknowledged were accepted on board when a CLCW with this
-     * value was made. They are the oldest ones (232.1-B-2, 5.1). The call does so after an alert too, until V(S) is set
-     * or an initiation begins. It uses only the numbers: after an alert that shows a broken condition, nothing is known
-     * of these segments, whatever the call returns. If V(S) is NN(R), there are no such segments, and the call returns
-     * 0 for every value. Returns null if there are such segments and the value does not lie from NN(R) to V(S): nothing
-     * is then known of them.
+     * value was made: the oldest ones (232.1-B-2, 5.1). The call still does so after an alert, until V(S) is set or an
+     * initiation begins. But it uses only the numbers: after an alert that shows a broken condition, nothing is known
+     * of these segments, whatever it returns. If V(S) is NN(R), there are no such segments, and it returns 0 for every
+     * value. Returns null if V(S) is not NN(R) and the value does not lie from NN(R) to V(S): nothing is then known of
+     * the segments.
      * @param {number} value
      * @returns {number | null}
      */
     acceptedBeyond(value: number): number | null;
     /**
-     * Returns how many of the session's submissions, from the first on, a CLCW with this value shows to be on board
-     * whole. They are those that are acknowledged, and those whose segments were all accepted according to the CLCW
-     * (232.1-B-2, 5.1). The call does so after an alert too. Returns null if nothing is known: no session has begun,
-     * V(S) was set since, an alert has shown a broken condition since, or V(S) is not NN(R) and the value does not lie
-     * from NN(R) to V(S).
+     * Returns how many of the session's submissions, counted from the first, a CLCW with this value shows to be on
+     * board whole: those that are acknowledged, and those whose segments were all accepted according to the CLCW
+     * (232.1-B-2, 5.1). The call still does so after an alert. Returns null if nothing is known: no session has begun,
+     * V(S) was set or an alert has shown a broken condition since, or V(S) is not NN(R) and the value does not lie from
+     * NN(R) to V(S).
      * @param {number} value
      * @returns {number | null}
      */
     knownOnBoard(value: number): number | null;
     /**
-     * Begins the next session after an alert, from the point that the ended session reached. Sets V(S) to the value of
-     * a CLCW that was made when nothing was in transit on the uplink, and begins by Unlock (232.1-B-2, 5.2.4). If V(S)
-     * is NN(R), it accepts any value: compare the value with V(S) first. Returns how many of the ended session's
-     * submissions, from the first on, are on board whole; resubmit the rest. A submission of several packets with more
-     * octets than a segment takes (part) is whole only with its last packet: some of its packets may be on board
-     * already, and be delivered again. Changes nothing and throws LinkFault 10 (NotKnown) if the sender is not in S6,
-     * no session has begun, V(S) was set since, an alert has shown a broken condition since, or V(S) is not NN(R) and
+     * Begins the next session after an alert, where the ended one stopped. Sets V(S) to the value of a CLCW that was
+     * made when nothing was in transit on the uplink, and begins by Unlock (232.1-B-2, 5.2.4). If V(S) is NN(R), the
+     * call accepts any value, so compare the value with V(S) first. Returns how many of the ended session's
+     * submissions, counted from the first, are on board whole; resubmit the rest. If a submission of several packets
+     * has more octets than a segment takes (part), it is whole only with its last packet: some of its packets may be on
+     * board already, and be delivered again. Changes nothing and throws LinkFault 10 (NotKnown) if the sender is not in
+     * S6, no session has begun, V(S) was set or an alert has shown a broken condition since, or V(S) is not NN(R) and
      * the value does not lie from NN(R) to V(S).
      * @param {number} value
      * @returns {number}
      */
     resume(value: number): number;
     /**
-     * The number of submissions of the session, which are numbered from 0. This number and the two below are modulo
-     * 2^64, stay after an alert, and are 0 once V(S) is set.
+     * The number of the session's submissions, which are numbered from 0. This number and the two below are modulo
+     * 2^64. An alert does not change them; beginning a session or setting V(S) makes them 0.
      * @returns {number}
      */
     get submitted(): number;
     /**
-     * How many of the session's submissions, from the first on, were sent whole, up to their last segment.
+     * How many of the session's submissions, counted from the first, were sent whole, to the last segment.
      * @returns {number}
      */
     get sentWhole(): number;
     /**
-     * How many of the session's submissions, from the first on, are acknowledged whole, and are therefore on board.
+     * How many of the session's submissions, counted from the first, are acknowledged whole, and are therefore on
+     * board.
      * @returns {number}
      */
     get acknowledgedWhole(): number;

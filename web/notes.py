@@ -32,7 +32,7 @@ FIELD_SAID = (
 SAID = (
     (r", of sedge_log_action(?=\.)", ""),
     (r" For a write, out receives .*? for any other action\.", ""),
-    (r" (?:Or returns|Returns 0, or) the first of SEDGE_WRONG_COUNT[^.]*\.", ""),
+    (r" (?:Writes nothing and returns|Returns 0, or the first of) SEDGE_WRONG_COUNT[^.]*\.", ""),
     (r"returned, with its number, is complete", "returned last is complete"),
     (r"Returns 0; or it changes nothing and returns SEDGE_DAMAGED, or else SEDGE_ABSENT if .*",
      "Throws an Error, and changes nothing, if this is another action."),

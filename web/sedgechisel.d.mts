@@ -178,7 +178,7 @@ export interface sedge_limits {
     part: number;
     /** The maximum length of a packet in octets. */
     max_packet: number;
-    /** Whether packets that have at most part octets together go into one segment, 0 or 1. */
+    /** Whether packets that together have at most `part` octets go into one segment, 0 or 1. */
     blocking: number;
 }
 
@@ -290,13 +290,16 @@ export interface sedge_heard {
 
 export interface sedge_ground_reading {
     /**
-     * The number of submissions of the session, which are numbered from 0. This number and the two below are modulo
-     * 2^64, stay after an alert, and are 0 once V(S) is set.
+     * The number of the session's submissions, which are numbered from 0. This number and the two below are modulo
+     * 2^64. An alert does not change them; beginning a session or setting V(S) makes them 0.
      */
     submitted: bigint;
-    /** How many of the session's submissions, from the first on, were sent whole, up to their last segment. */
+    /** How many of the session's submissions, counted from the first, were sent whole, to the last segment. */
     sent_whole: bigint;
-    /** How many of the session's submissions, from the first on, are acknowledged whole, and are therefore on board. */
+    /**
+     * How many of the session's submissions, counted from the first, are acknowledged whole, and are therefore on
+     * board.
+     */
     acknowledged_whole: bigint;
     /** The number of segments that were submitted and are not acknowledged. */
     outstanding: number;
@@ -426,7 +429,7 @@ export interface sedge_event {
 export interface sedge_sim_reading {
     /** The number of segments that were submitted and are not acknowledged. */
     outstanding: number;
-    /** How many of the frames sent, from the first on, the ground regards as acknowledged. */
+    /** How many of the frames sent, counted from the first, the ground regards as acknowledged. */
     acknowledged: number;
     /** The state of the ground's sender, of `sedge_fop_state`. */
     state: number;
@@ -434,7 +437,7 @@ export interface sedge_sim_reading {
     begun: number;
     /** The number of Set V(R). */
     vr: number;
-    /** The session began with nothing in transit, and without a CLCW check only if V(R) was V(S). */
+    /** The session began with nothing in transit and, if without a CLCW check, with V(R) equal to V(S). */
     clean: boolean;
     /** The session had an idle start (docs/PROMISES.md). */
     idle: boolean;
@@ -528,20 +531,20 @@ export interface Calls {
     /**
      * Takes a CLCW for the sender of the virtual channel `vcid`. The call compares this number with the CLCW's `vcid`;
      * the caller has already compared the scid of the telemetry frame that carried the CLCW. Returns the alert, of
-     * `sedge_alert`, and writes how many units are acknowledged, the oldest of those sent. Or returns the first of
-     * `SEDGE_ABSENT`, if the CLCW reports on another channel, and `SEDGE_DAMAGED`, with nothing written and nothing
-     * changed.
+     * `sedge_alert`, and writes how many units are acknowledged, the oldest of those sent. Writes and changes nothing,
+     * and returns `SEDGE_ABSENT` if the CLCW reports on another channel, or else `SEDGE_DAMAGED` if a struct is
+     * damaged.
      */
     sedge_fop_clcw(fop: Partial<sedge_fop>, vcid: number, word: Partial<sedge_clcw>, released: Partial<Box>): number;
     /** Counts a tick of the clock. Returns the alert, of `sedge_alert`, or `SEDGE_DAMAGED`. */
     sedge_fop_tick(fop: Partial<sedge_fop>): number;
     /**
      * Writes how many of the units that were sent and not acknowledged were accepted on board when a CLCW with this
-     * value was made. They are the oldest ones, with the numbers from NN(R) to value - 1 (5.1). The call does so after
-     * an alert too, until V(S) is set or an initiation begins. It uses only the numbers: after an alert that shows a
-     * broken condition, nothing is known of these units, whatever the call writes. If V(S) is NN(R), there are no such
-     * units, and the call writes 0 for every value. Returns 0, or `SEDGE_DAMAGED`, or `SEDGE_ABSENT` if there are such
-     * units and the value does not lie from NN(R) to V(S): nothing is then known of them, and nothing is written.
+     * value was made: the oldest ones, with the numbers from NN(R) to value - 1 (5.1). The call still does so after an
+     * alert, until V(S) is set or an initiation begins. But it uses only the numbers: after an alert that shows a
+     * broken condition, nothing is known of these units, whatever it writes. If V(S) is NN(R), there are no such units,
+     * and it writes 0 for every value. Returns 0, or `SEDGE_DAMAGED`, or, with nothing written, `SEDGE_ABSENT` if V(S)
+     * is not NN(R) and the value does not lie from NN(R) to V(S): nothing is then known of these units.
      */
     sedge_fop_accepted_beyond(fop: Partial<sedge_fop>, value: number, accepted: Partial<Box>): number;
     /**
@@ -698,8 +701,8 @@ export interface Calls {
      * Returns the program's next action, of `sedge_log_action`. The program completes this action and calls
      * `sedge_log_done` before it calls `sedge_log_next` again. For a write, `out` receives the 50 octets of the place;
      * otherwise it does not change. `number` receives the number of the command to be executed, or 0 for any other
-     * action. Or returns the first of `SEDGE_WRONG_COUNT`, if the buffer is not 50 octets long, and `SEDGE_DAMAGED`,
-     * with nothing written.
+     * action. Writes nothing and returns `SEDGE_WRONG_COUNT` if the buffer is not 50 octets long, or else
+     * `SEDGE_DAMAGED` if the struct is damaged.
      */
     sedge_log_next(log: Partial<sedge_log>, out: Uint8Array, number: Partial<Box>): number;
     /**
@@ -712,16 +715,16 @@ export interface Calls {
      * Takes the octets of a packet that arrived, if it is the next command, and writes where the mission's octets are
      * in them. Keep the mission's octets until the command has been executed, after `sedge_log_next` has returned
      * `SEDGE_LOG_EXECUTE` with its number. Returns 0, or else drops the packet, changes and writes nothing, and returns
-     * `SEDGE_DAMAGED` or the first of 1 to 7 of `sedge_log_fault`: 1 Layout, then 2 Check, then 3 Starting, 4 Busy or 5
-     * Lost, then 6 Behind or 7 Ahead.
+     * `SEDGE_DAMAGED` or the first that applies of 1 to 7 of `sedge_log_fault`: 1 Layout, then 2 Check, then 3
+     * Starting, 4 Busy or 5 Lost, then 6 Behind or 7 Ahead.
      */
     sedge_log_offer(log: Partial<sedge_log>, octets: Uint8Array, content: Partial<sedge_part>): number;
     /**
      * Takes the octets of an order that arrived. An order to restart makes `SEDGE_LOG_RESTART` the next action. A board
      * that has lost its record continues with the one that the order brings, if the order has the mark of this loss.
-     * Returns 0, or else drops the packet, changes nothing, and returns `SEDGE_DAMAGED`, the first of 1 to 5 of
-     * `sedge_log_fault`, or 8 to 10 of `sedge_log_fault`: 1 Layout, then 2 Check; of a restart 3 Starting, 4 Busy or 5
-     * Lost, then 8 OtherBoot; of a record 9 NotLost, then 10 OtherMark.
+     * Returns 0, or else drops the packet, changes nothing, and returns `SEDGE_DAMAGED` or the first that applies of 1
+     * to 5 and 8 to 10 of `sedge_log_fault`: 1 Layout, then 2 Check; then for a restart 3 Starting, 4 Busy or 5 Lost,
+     * and then 8 OtherBoot; for a record 9 NotLost, and then 10 OtherMark.
      */
     sedge_log_obey(log: Partial<sedge_log>, octets: Uint8Array): number;
     /**
@@ -781,12 +784,12 @@ export interface Calls {
     /** The name of a `sedge_log_fault`. */
     sedge_log_fault_name(fault: number): string;
     /**
-     * Returns whether a `sedge_alert` shows a broken condition of the link: true for `SEDGE_ALERT_LOCKOUT`,
-     * `SEDGE_ALERT_NNR`, `SEDGE_ALERT_CLCW` and `SEDGE_ALERT_SYNCH`. None of these can occur in a confirmed session
-     * begun by check, Unlock or Set V(R) while the conditions hold. So the board restarted, the link reorders or
-     * repeats frames, or there is a second station; in other sessions, the receiver's earlier state may be the cause.
-     * Nothing is then known of what is on board: begin again, as after a reset. Returns false for any other number.
-     * After other alerts, the next session can resume where this one ended.
+     * Returns whether a `sedge_alert` shows a broken condition of the link (README.md): true for `SEDGE_ALERT_LOCKOUT`,
+     * `SEDGE_ALERT_NNR`, `SEDGE_ALERT_CLCW` and `SEDGE_ALERT_SYNCH`. If the session was begun by check, Unlock or Set
+     * V(R) and confirmed by a CLCW, a condition was broken: for example, the board restarted, the link reorders or
+     * repeats frames, or there is a second station. Otherwise the receiver's earlier state may be the cause. Nothing is
+     * then known of what is on board: begin again, as after a reset. Returns false for any other number. After other
+     * alerts, the next session can resume where this one ended.
      */
     sedge_alert_shows_broken_condition(alert: number): boolean;
     /**
@@ -804,9 +807,9 @@ export interface Calls {
      * is also out of range if it is odd, and a `window` if it is more than half the width.
      */
     sedge_config_fault(config: Partial<sedge_config>): number;
-    /** The name of a `sedge_parameter`, which is that of its field in `sedge_config`. */
+    /** The name of a `sedge_parameter`: its field in `sedge_config`. */
     sedge_parameter_name(number: number): string;
-    /** The name of a `sedge_node_status`, 1 to 6 and 10; "?" for another number. */
+    /** The name of a `sedge_node_status` of 1 to 10, else "?". */
     sedge_link_fault_name(number: number): string;
     /**
      * Opens a ground, which replaces any ground that the handle holds. The old ground is released once the new one is
@@ -825,9 +828,9 @@ export interface Calls {
     sedge_ground_directive(ground: Partial<sedge_ground>, directive: number, value: number): number;
     /**
      * Submits one packet on a MAP under sequence control, or several if blocking is on. `sedge_map_count` writes the
-     * number of their segments. The promise that `sedge_ground_resume` counts a submission correctly covers one packet,
-     * and packets that share one segment. Returns 0, or the first of 1 to 5 of `sedge_node_status` that applies, or
-     * `SEDGE_NODE_MEMORY`.
+     * number of their segments. `sedge_ground_resume` is promised to count correctly only the submissions that are one
+     * packet, or packets that share one segment. Returns 0, or the first of 1 to 5 of `sedge_node_status` that applies,
+     * or `SEDGE_NODE_MEMORY`.
      */
     sedge_ground_submit(ground: Partial<sedge_ground>, map: number, octets: Uint8Array): number;
     /**
@@ -896,30 +899,30 @@ export interface Calls {
     sedge_ground_read(ground: Partial<sedge_ground>, read: Partial<sedge_ground_reading>): number;
     /**
      * Writes how many of the segments that were sent and not acknowledged were accepted on board when a CLCW with this
-     * value was made. They are the oldest ones (232.1-B-2, 5.1). The call does so after an alert too, until V(S) is set
-     * or an initiation begins. It uses only the numbers: after an alert that shows a broken condition, nothing is known
-     * of these segments, whatever the call writes. If V(S) is NN(R), there are no such segments, and the call writes 0
-     * for every value. Returns 0, or `SEDGE_NODE_ABSENT` if there are such segments and the value does not lie from
-     * NN(R) to V(S): nothing is then known of them.
+     * value was made: the oldest ones (232.1-B-2, 5.1). The call still does so after an alert, until V(S) is set or an
+     * initiation begins. But it uses only the numbers: after an alert that shows a broken condition, nothing is known
+     * of these segments, whatever it writes. If V(S) is NN(R), there are no such segments, and it writes 0 for every
+     * value. Returns 0, or `SEDGE_NODE_ABSENT` if V(S) is not NN(R) and the value does not lie from NN(R) to V(S):
+     * nothing is then known of the segments.
      */
     sedge_ground_accepted_beyond(ground: Partial<sedge_ground>, value: number, accepted: Partial<Box>): number;
     /**
-     * Writes how many of the session's submissions, from the first on, a CLCW with this value shows to be on board
-     * whole. They are those that are acknowledged, and those whose segments were all accepted according to the CLCW
-     * (232.1-B-2, 5.1). The call does so after an alert too. Returns 0, or `SEDGE_NODE_ABSENT` if nothing is known: no
-     * session has begun, V(S) was set since, an alert has shown a broken condition since, or V(S) is not NN(R) and the
-     * value does not lie from NN(R) to V(S).
+     * Writes how many of the session's submissions, counted from the first, a CLCW with this value shows to be on board
+     * whole: those that are acknowledged, and those whose segments were all accepted according to the CLCW (232.1-B-2,
+     * 5.1). The call still does so after an alert. Returns 0, or `SEDGE_NODE_ABSENT` if nothing is known: no session
+     * has begun, V(S) was set or an alert has shown a broken condition since, or V(S) is not NN(R) and the value does
+     * not lie from NN(R) to V(S).
      */
     sedge_ground_known_on_board(ground: Partial<sedge_ground>, value: number, whole: Partial<Box>): number;
     /**
-     * Begins the next session after an alert, from the point that the ended session reached. Sets V(S) to the value of
-     * a CLCW that was made when nothing was in transit on the uplink, and begins by Unlock (232.1-B-2, 5.2.4). If V(S)
-     * is NN(R), it accepts any value: compare the value with V(S) first. Writes how many of the ended session's
-     * submissions, from the first on, are on board whole; resubmit the rest. A submission of several packets with more
-     * octets than a segment takes (`part`) is whole only with its last packet: some of its packets may be on board
+     * Begins the next session after an alert, where the ended one stopped. Sets V(S) to the value of a CLCW that was
+     * made when nothing was in transit on the uplink, and begins by Unlock (232.1-B-2, 5.2.4). If V(S) is NN(R), the
+     * call accepts any value, so compare the value with V(S) first. Writes how many of the ended session's submissions,
+     * counted from the first, are on board whole; resubmit the rest. If a submission of several packets has more octets
+     * than a segment takes (`part`), it is whole only with its last packet: some of its packets may be on board
      * already, and be delivered again. Returns 0. Changes nothing and returns `SEDGE_NODE_NOT_KNOWN` (10) if the sender
-     * is not in S6, no session has begun, V(S) was set since, an alert has shown a broken condition since, or V(S) is
-     * not NN(R) and the value does not lie from NN(R) to V(S).
+     * is not in S6, no session has begun, V(S) was set or an alert has shown a broken condition since, or V(S) is not
+     * NN(R) and the value does not lie from NN(R) to V(S).
      */
     sedge_ground_resume(ground: Partial<sedge_ground>, value: number, whole: Partial<Box>): number;
     /**
@@ -930,11 +933,12 @@ export interface Calls {
      */
     sedge_ground_kept(ground: Partial<sedge_ground>, kept: Partial<sedge_kept_ground>): number;
     /**
-     * Opens a ground that continues, in S6, from the record that `sedge_ground_kept` wrote of a lost one: with its
-     * V(S), its NN(R) and its counts of submissions. The new ground is the lost one after Terminate, without what
-     * waited, and with the window, the limit and the timer of the configuration. So `sedge_ground_resume` can begin the
-     * next session, as after an alert. A ground that the handle holds is treated as by `sedge_ground_open`. Returns 0,
-     * `SEDGE_NODE_OUT_OF_RANGE` (also for a record that no ground of this configuration writes) or `SEDGE_NODE_MEMORY`.
+     * Opens a ground that continues from the record of a lost one, which `sedge_ground_kept` wrote. It is in S6, with
+     * the V(S), the NN(R) and the counts of submissions of the record. The new ground is the lost one after Terminate,
+     * without what waited, and with the window, the limit and the timer of the configuration. So `sedge_ground_resume`
+     * can begin the next session, as after an alert. A ground that the handle holds is treated as by
+     * `sedge_ground_open`. Returns 0, `SEDGE_NODE_OUT_OF_RANGE` (also for a record that no ground of this configuration
+     * writes) or `SEDGE_NODE_MEMORY`.
      */
     sedge_ground_open_kept(ground: Partial<sedge_ground>, config: Partial<sedge_config>, kept: Partial<sedge_kept_ground>): number;
     /**
@@ -1000,10 +1004,11 @@ export interface Calls {
     sedge_sim_fault_name(number: number): string;
     /**
      * Lets an event happen. Returns 0 and writes the reply; a node's refusal is a reply too. Returns a number of
-     * `sedge_sim_fault` if nothing happens. Returns `SEDGE_NODE_NONE` also for a number that is not a kind, for a
+     * `sedge_sim_fault` if nothing happens; it is not `SEDGE_SIM_MEMORY` for a directive, a resumption, a loss, damage,
+     * a CLCW by itself, a tick or a take. Returns `SEDGE_NODE_NONE` also for a number that is not a kind, for a
      * directive and a value for which `sedge_ground_directive` returns it, and for a resumption with a value above 255.
-     * No directive, resumption, loss, damage, CLCW by itself, tick or take returns `SEDGE_SIM_MEMORY`. The octets of a
-     * frame that was sent, and of a packet that was taken, can be read until the next event (`sedge_sim_octets`).
+     * The octets of a frame that was sent, and of a packet that was taken, can be read until the next event
+     * (`sedge_sim_octets`).
      */
     sedge_sim_step(sim: Partial<sedge_sim>, event: Partial<sedge_event>, reply: Partial<sedge_reply>): number;
     /**

@@ -114,7 +114,7 @@ export class Link extends Directing {
      */
     get outstanding(): number;
     /**
-     * How many of the frames sent, from the first on, the ground regards as acknowledged.
+     * How many of the frames sent, counted from the first, the ground regards as acknowledged.
      * @returns {number}
      */
     get acknowledged(): number;
@@ -124,7 +124,7 @@ export class Link extends Directing {
      */
     get begun(): import("./meanings.mjs").Begun;
     /**
-     * Whether the session began with nothing in transit, and without a CLCW check only if V(R) was V(S).
+     * Whether the session began with nothing in transit and, if without a CLCW check, with V(R) equal to V(S).
      * @returns {boolean}
      */
     get clean(): boolean;

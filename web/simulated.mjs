@@ -245,7 +245,7 @@ export class Link extends Directing {
     }
 
     /**
-     * How many of the frames sent, from the first on, the ground regards as acknowledged.
+     * How many of the frames sent, counted from the first, the ground regards as acknowledged.
      * @returns {number}
      */
     get acknowledged() {
@@ -261,7 +261,7 @@ export class Link extends Directing {
     }
 
     /**
-     * Whether the session began with nothing in transit, and without a CLCW check only if V(R) was V(S).
+     * Whether the session began with nothing in transit and, if without a CLCW check, with V(R) equal to V(S).
      * @returns {boolean}
      */
     get clean() {

@@ -134,10 +134,8 @@ static inline bool sedge_config_set(struct sedge_config *config, uint8_t number,
 SEDGE_CHECK uint8_t sedge_config_fault(const struct sedge_config *config);
 
 /* Names, as tctool writes them; "?" for a number that is not in the enumeration. */
-struct sedge_text sedge_parameter_name(uint8_t number);
-    /* the name of a sedge_parameter, which is that of its field in sedge_config */
-struct sedge_text sedge_link_fault_name(uint8_t number);
-    /* the name of a sedge_node_status, 1 to 6 and 10; "?" for another number */
+struct sedge_text sedge_parameter_name(uint8_t number);  /* the name of a sedge_parameter: its field in sedge_config */
+struct sedge_text sedge_link_fault_name(uint8_t number); /* the name of a sedge_node_status of 1 to 10, else "?" */
 
 /* ---- The ground. ---- */
 
@@ -190,8 +188,9 @@ static inline SEDGE_CHECK uint8_t sedge_ground_set_timer(struct sedge_ground *gr
 }
 
 /* Submits one packet on a MAP under sequence control, or several if blocking is on. sedge_map_count writes the number
- * of their segments. The promise that sedge_ground_resume counts a submission correctly covers one packet, and packets
- * that share one segment. Returns 0, or the first of 1 to 5 of sedge_node_status that applies, or SEDGE_NODE_MEMORY. */
+ * of their segments. sedge_ground_resume is promised to count correctly only the submissions that are one packet, or
+ * packets that share one segment. Returns 0, or the first of 1 to 5 of sedge_node_status that applies, or
+ * SEDGE_NODE_MEMORY. */
 SEDGE_CHECK uint8_t sedge_ground_submit(struct sedge_ground *ground, uint8_t map, const uint8_t *octets, size_t count);
 
 /* Submits one packet on a MAP by bypass (Type-BD). Returns 0, or the first of 2 to 5 of sedge_node_status that applies,
@@ -230,8 +229,8 @@ enum sedge_heard_report {
 };
 
 /* What the ground makes of octets that it received: their kind, and the fields for that kind and for what becomes of
- * the CLCW. The note of a field begins with the last words of the constants for which the field is set; for all others
- * it is 0. */
+ * the CLCW. The note of a field begins with the constants of these two for which the field is set, without
+ * SEDGE_HEARD_ or SEDGE_REPORT_; for all others it is 0. */
 struct sedge_heard {
     size_t packets;     /* FRAME: the number of packets added to those that wait to be taken */
     uint8_t kind;       /* of sedge_heard_kind */
@@ -278,13 +277,13 @@ SEDGE_CHECK uint8_t sedge_ground_tick(struct sedge_ground *ground);
 
 /* What sedge_ground_read writes. */
 struct sedge_ground_reading {
-    uint64_t submitted;          /* the number of submissions of the session, which are numbered from 0. This number
-                                  * and the two below are modulo 2^64, stay after an alert, and are 0 once V(S) is
-                                  * set */
-    uint64_t sent_whole;         /* how many of the session's submissions, from the first on, were sent whole, up to
-                                  * their last segment */
-    uint64_t acknowledged_whole; /* how many of the session's submissions, from the first on, are acknowledged whole,
-                                  * and are therefore on board */
+    uint64_t submitted;          /* the number of the session's submissions, which are numbered from 0. This number
+                                  * and the two below are modulo 2^64. An alert does not change them; beginning a
+                                  * session or setting V(S) makes them 0 */
+    uint64_t sent_whole;         /* how many of the session's submissions, counted from the first, were sent whole,
+                                  * to the last segment */
+    uint64_t acknowledged_whole; /* how many of the session's submissions, counted from the first, are acknowledged
+                                  * whole, and are therefore on board */
     size_t outstanding;          /* the number of segments that were submitted and are not acknowledged */
     size_t unsent;               /* how many outstanding segments wait to be sent for the first time */
     size_t due;                  /* how many outstanding segments are to be retransmitted */
@@ -302,28 +301,28 @@ struct sedge_ground_reading {
 uint8_t sedge_ground_read(struct sedge_ground *ground, struct sedge_ground_reading *read);
 
 /* Writes how many of the segments that were sent and not acknowledged were accepted on board when a CLCW with this
- * value was made. They are the oldest ones (232.1-B-2, 5.1). The call does so after an alert too, until V(S) is set or
- * an initiation begins. It uses only the numbers: after an alert that shows a broken condition, nothing is known of
- * these segments, whatever the call writes. If V(S) is NN(R), there are no such segments, and the call writes 0 for
- * every value. Returns 0, or SEDGE_NODE_ABSENT if there are such segments and the value does not lie from NN(R) to
- * V(S): nothing is then known of them. */
+ * value was made: the oldest ones (232.1-B-2, 5.1). The call still does so after an alert, until V(S) is set or an
+ * initiation begins. But it uses only the numbers: after an alert that shows a broken condition, nothing is known of
+ * these segments, whatever it writes. If V(S) is NN(R), there are no such segments, and it writes 0 for every value.
+ * Returns 0, or SEDGE_NODE_ABSENT if V(S) is not NN(R) and the value does not lie from NN(R) to V(S): nothing is then
+ * known of the segments. */
 SEDGE_CHECK uint8_t sedge_ground_accepted_beyond(struct sedge_ground *ground, uint8_t value, uint8_t *accepted);
 
-/* Writes how many of the session's submissions, from the first on, a CLCW with this value shows to be on board whole.
- * They are those that are acknowledged, and those whose segments were all accepted according to the CLCW (232.1-B-2,
- * 5.1). The call does so after an alert too. Returns 0, or SEDGE_NODE_ABSENT if nothing is known: no session has begun,
- * V(S) was set since, an alert has shown a broken condition since, or V(S) is not NN(R) and the value does not lie from
- * NN(R) to V(S). */
+/* Writes how many of the session's submissions, counted from the first, a CLCW with this value shows to be on board
+ * whole: those that are acknowledged, and those whose segments were all accepted according to the CLCW (232.1-B-2,
+ * 5.1). The call still does so after an alert. Returns 0, or SEDGE_NODE_ABSENT if nothing is known: no session has
+ * begun, V(S) was set or an alert has shown a broken condition since, or V(S) is not NN(R) and the value does not lie
+ * from NN(R) to V(S). */
 SEDGE_CHECK uint8_t sedge_ground_known_on_board(struct sedge_ground *ground, uint8_t value, uint64_t *whole);
 
-/* Begins the next session after an alert, from the point that the ended session reached. Sets V(S) to the value of a
- * CLCW that was made when nothing was in transit on the uplink, and begins by Unlock (232.1-B-2, 5.2.4). If V(S) is
- * NN(R), it accepts any value: compare the value with V(S) first. Writes how many of the ended session's submissions,
- * from the first on, are on board whole; resubmit the rest. A submission of several packets with more octets than a
- * segment takes (part) is whole only with its last packet: some of its packets may be on board already, and be
+/* Begins the next session after an alert, where the ended one stopped. Sets V(S) to the value of a CLCW that was made
+ * when nothing was in transit on the uplink, and begins by Unlock (232.1-B-2, 5.2.4). If V(S) is NN(R), the call
+ * accepts any value, so compare the value with V(S) first. Writes how many of the ended session's submissions, counted
+ * from the first, are on board whole; resubmit the rest. If a submission of several packets has more octets than a
+ * segment takes (part), it is whole only with its last packet: some of its packets may be on board already, and be
  * delivered again. Returns 0. Changes nothing and returns SEDGE_NODE_NOT_KNOWN (10) if the sender is not in S6, no
- * session has begun, V(S) was set since, an alert has shown a broken condition since, or V(S) is not NN(R) and the
- * value does not lie from NN(R) to V(S). */
+ * session has begun, V(S) was set or an alert has shown a broken condition since, or V(S) is not NN(R) and the value
+ * does not lie from NN(R) to V(S). */
 SEDGE_CHECK uint8_t sedge_ground_resume(struct sedge_ground *ground, uint8_t value, uint64_t *whole);
 
 /* The record of a ground: V(S) and NN(R) (232.1-B-2, 5.1), and the counts of the submissions that were sent whole. The
@@ -346,11 +345,11 @@ struct sedge_kept_ground {
  * telemetry, or of what directives set. Returns 0. */
 uint8_t sedge_ground_kept(struct sedge_ground *ground, struct sedge_kept_ground *kept);
 
-/* Opens a ground that continues, in S6, from the record that sedge_ground_kept wrote of a lost one: with its V(S), its
- * NN(R) and its counts of submissions. The new ground is the lost one after Terminate, without what waited, and with
- * the window, the limit and the timer of the configuration. So sedge_ground_resume can begin the next session, as after
- * an alert. A ground that the handle holds is treated as by sedge_ground_open. Returns 0, SEDGE_NODE_OUT_OF_RANGE (also
- * for a record that no ground of this configuration writes) or SEDGE_NODE_MEMORY. */
+/* Opens a ground that continues from the record of a lost one, which sedge_ground_kept wrote. It is in S6, with the
+ * V(S), the NN(R) and the counts of submissions of the record. The new ground is the lost one after Terminate, without
+ * what waited, and with the window, the limit and the timer of the configuration. So sedge_ground_resume can begin the
+ * next session, as after an alert. A ground that the handle holds is treated as by sedge_ground_open. Returns 0,
+ * SEDGE_NODE_OUT_OF_RANGE (also for a record that no ground of this configuration writes) or SEDGE_NODE_MEMORY. */
 SEDGE_CHECK uint8_t sedge_ground_open_kept(struct sedge_ground *ground, const struct sedge_config *config,
                                            const struct sedge_kept_ground *kept);
 
@@ -378,7 +377,7 @@ enum sedge_received_kind {
 };
 
 /* What the spacecraft makes of octets that it received: their kind, and the fields for that kind. The note of a field
- * begins with the last word of the constant for which the field is set; for all others it is 0. */
+ * begins with the kind for which the field is set, without SEDGE_RECEIVED_; for all others it is 0. */
 struct sedge_received {
     size_t ready;    /* AD: the number of packets added to those that wait to be taken */
     uint8_t kind;    /* of sedge_received_kind */
@@ -556,10 +555,10 @@ typedef char sedge_event_is_laid_out[sizeof(uint8_t *) < 8 || (offsetof(struct s
                                          : -1];
 
 /* Lets an event happen. Returns 0 and writes the reply; a node's refusal is a reply too. Returns a number of
- * sedge_sim_fault if nothing happens. Returns SEDGE_NODE_NONE also for a number that is not a kind, for a directive and
- * a value for which sedge_ground_directive returns it, and for a resumption with a value above 255. No directive,
- * resumption, loss, damage, CLCW by itself, tick or take returns SEDGE_SIM_MEMORY. The octets of a frame that was sent,
- * and of a packet that was taken, can be read until the next event (sedge_sim_octets). */
+ * sedge_sim_fault if nothing happens; it is not SEDGE_SIM_MEMORY for a directive, a resumption, a loss, damage, a CLCW
+ * by itself, a tick or a take. Returns SEDGE_NODE_NONE also for a number that is not a kind, for a directive and a
+ * value for which sedge_ground_directive returns it, and for a resumption with a value above 255. The octets of a frame
+ * that was sent, and of a packet that was taken, can be read until the next event (sedge_sim_octets). */
 SEDGE_CHECK uint8_t sedge_sim_step(struct sedge_sim *sim, const struct sedge_event *event, struct sedge_reply *reply);
 
 /* Calls of sedge_sim_step: for an event with octets, for one without, for a directive, and for a resumption of the
@@ -681,11 +680,12 @@ enum sedge_begun {
 /* What is known of the link and of its session. Each initiation that the ground accepts begins a session. */
 struct sedge_sim_reading {
     size_t outstanding;  /* the number of segments that were submitted and are not acknowledged */
-    size_t acknowledged; /* how many of the frames sent, from the first on, the ground regards as acknowledged */
+    size_t acknowledged; /* how many of the frames sent, counted from the first, the ground regards as acknowledged */
     uint8_t state;       /* the state of the ground's sender, of sedge_fop_state */
     uint8_t begun;       /* of sedge_begun */
     uint8_t vr;          /* the number of Set V(R) */
-    bool clean;          /* the session began with nothing in transit, and without a CLCW check only if V(R) was V(S) */
+    bool clean;          /* the session began with nothing in transit and, if without a CLCW check, with V(R) equal
+                          * to V(S) */
     bool idle;           /* the session had an idle start (docs/PROMISES.md) */
     bool confirmed;      /* a CLCW has taken the ground from S4 or S5 to S1 */
 };

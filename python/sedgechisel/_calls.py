@@ -401,7 +401,7 @@ class Directives:
         self._direct("init_unlock")
 
     def init_set_vr(self, vr: int) -> None:
-        """Directive: initiate with Set V(R): S6 to S5, V(S) and NN(R) to `vr`, and Set V(R) is sent; CopFault 8
+        """Directive: initiate with Set V(R): S6 to S5, V(S) and NN(R) are set to `vr`, and Set V(R) is sent; CopFault 8
         WrongState unless in S6."""
         self._direct("init_set_vr", "vr", vr)
 
@@ -411,7 +411,7 @@ class Directives:
         self._direct("terminate")
 
     def set_vs(self, vs: int) -> None:
-        """Directive: set V(S), and NN(R) too, to `vs`; CopFault 8 WrongState unless in S6."""
+        """Directive: set both V(S) and NN(R) to `vs`; CopFault 8 WrongState unless in S6."""
         self._direct("set_vs", "vs", vs)
 
     def set_window(self, window: int) -> None:

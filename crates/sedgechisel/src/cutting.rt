@@ -22,7 +22,7 @@ pub struct CutLimits {
     pub part: u32,
     /// The maximum length of a packet in octets.
     pub max_packet: u32,
-    /// Whether packets that have at most part octets together go into one segment, 0 or 1.
+    /// Whether packets that together have at most `part` octets go into one segment, 0 or 1.
     pub blocking: u8,
 }
 

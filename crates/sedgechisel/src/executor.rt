@@ -69,8 +69,8 @@ fn copy_in(octets: &[u8]) -> Option<Record>
 /// Returns the program's next action, of `sedge_log_action`. The program completes this action and calls
 /// `sedge_log_done` before it calls `sedge_log_next` again. For a write, `out` receives the 50 octets of the
 /// place; otherwise it does not change. `number` receives the number of the command to be executed, or 0 for
-/// any other action. Or returns the first of `SEDGE_WRONG_COUNT`, if the buffer is not 50 octets long, and
-/// `SEDGE_DAMAGED`, with nothing written.
+/// any other action. Writes nothing and returns `SEDGE_WRONG_COUNT` if the buffer is not 50 octets long, or
+/// else `SEDGE_DAMAGED` if the struct is damaged.
 #[unsafe(no_mangle)]
 #[must_use]
 pub extern "C" fn sedge_log_next(log: &KeptLog, out: &mut [u8], number: &mut u32) -> u8
@@ -137,8 +137,8 @@ pub extern "C" fn sedge_log_done(log: &mut KeptLog, action: u8, number: u32) -> 
 /// Takes the octets of a packet that arrived, if it is the next command, and writes where the mission's
 /// octets are in them. Keep the mission's octets until the command has been executed, after `sedge_log_next`
 /// has returned `SEDGE_LOG_EXECUTE` with its number. Returns 0, or else drops the packet, changes and writes
-/// nothing, and returns `SEDGE_DAMAGED` or the first of 1 to 7 of `sedge_log_fault`: 1 Layout, then 2 Check,
-/// then 3 Starting, 4 Busy or 5 Lost, then 6 Behind or 7 Ahead.
+/// nothing, and returns `SEDGE_DAMAGED` or the first that applies of 1 to 7 of `sedge_log_fault`: 1 Layout,
+/// then 2 Check, then 3 Starting, 4 Busy or 5 Lost, then 6 Behind or 7 Ahead.
 #[unsafe(no_mangle)]
 #[must_use]
 pub extern "C" fn sedge_log_offer(log: &mut KeptLog, octets: &[u8], content: &mut Part) -> u8
@@ -162,9 +162,9 @@ pub extern "C" fn sedge_log_offer(log: &mut KeptLog, octets: &[u8], content: &mu
 
 /// Takes the octets of an order that arrived. An order to restart makes `SEDGE_LOG_RESTART` the next action.
 /// A board that has lost its record continues with the one that the order brings, if the order has the mark
-/// of this loss. Returns 0, or else drops the packet, changes nothing, and returns `SEDGE_DAMAGED`, the first
-/// of 1 to 5 of `sedge_log_fault`, or 8 to 10 of `sedge_log_fault`: 1 Layout, then 2 Check; of a restart 3
-/// Starting, 4 Busy or 5 Lost, then 8 OtherBoot; of a record 9 NotLost, then 10 OtherMark.
+/// of this loss. Returns 0, or else drops the packet, changes nothing, and returns `SEDGE_DAMAGED` or the
+/// first that applies of 1 to 5 and 8 to 10 of `sedge_log_fault`: 1 Layout, then 2 Check; then for a restart
+/// 3 Starting, 4 Busy or 5 Lost, and then 8 OtherBoot; for a record 9 NotLost, and then 10 OtherMark.
 #[unsafe(no_mangle)]
 #[must_use]
 pub extern "C" fn sedge_log_obey(log: &mut KeptLog, octets: &[u8]) -> u8

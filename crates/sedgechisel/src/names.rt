@@ -64,12 +64,12 @@ fn alert_of(number: u8) -> Option<Alert>
     }
 }
 
-/// Returns whether a `sedge_alert` shows a broken condition of the link: true for `SEDGE_ALERT_LOCKOUT`,
-/// `SEDGE_ALERT_NNR`, `SEDGE_ALERT_CLCW` and `SEDGE_ALERT_SYNCH`. None of these can occur in a confirmed
-/// session begun by check, Unlock or Set V(R) while the conditions hold. So the board restarted, the link
-/// reorders or repeats frames, or there is a second station; in other sessions, the receiver's earlier state
-/// may be the cause. Nothing is then known of what is on board: begin again, as after a reset. Returns false
-/// for any other number. After other alerts, the next session can resume where this one ended.
+/// Returns whether a `sedge_alert` shows a broken condition of the link (README.md): true for
+/// `SEDGE_ALERT_LOCKOUT`, `SEDGE_ALERT_NNR`, `SEDGE_ALERT_CLCW` and `SEDGE_ALERT_SYNCH`. If the session was
+/// begun by check, Unlock or Set V(R) and confirmed by a CLCW, a condition was broken: for example, the board
+/// restarted, the link reorders or repeats frames, or there is a second station. Otherwise the receiver's
+/// earlier state may be the cause. Nothing is then known of what is on board: begin again, as after a reset.
+/// Returns false for any other number. After other alerts, the next session can resume where this one ended.
 #[unsafe(no_mangle)]
 pub extern "C" fn sedge_alert_shows_broken_condition(alert: u8) -> bool
     ensures { result ≡ broken_if (alert_at alert) }

@@ -107,9 +107,9 @@ pub extern "C" fn sedge_fop_next(sender: &mut KeptSender, number: &mut u8) -> u8
 
 /// Takes a CLCW for the sender of the virtual channel `vcid`. The call compares this number with the CLCW's
 /// `vcid`; the caller has already compared the scid of the telemetry frame that carried the CLCW. Returns the
-/// alert, of `sedge_alert`, and writes how many units are acknowledged, the oldest of those sent. Or returns
-/// the first of `SEDGE_ABSENT`, if the CLCW reports on another channel, and `SEDGE_DAMAGED`, with nothing
-/// written and nothing changed.
+/// alert, of `sedge_alert`, and writes how many units are acknowledged, the oldest of those sent. Writes and
+/// changes nothing, and returns `SEDGE_ABSENT` if the CLCW reports on another channel, or else
+/// `SEDGE_DAMAGED` if a struct is damaged.
 #[unsafe(no_mangle)]
 #[must_use]
 pub extern "C" fn sedge_fop_clcw(

@@ -26,9 +26,9 @@ pub(crate) fn number_of(outcome: Result<(), LinkFault>) -> u8
 }
 
 /// Submits one packet on a MAP under sequence control, or several if blocking is on. `sedge_map_count` writes
-/// the number of their segments. The promise that `sedge_ground_resume` counts a submission correctly covers
-/// one packet, and packets that share one segment. Returns 0, or the first of 1 to 5 of `sedge_node_status`
-/// that applies, or `SEDGE_NODE_MEMORY`.
+/// the number of their segments. `sedge_ground_resume` is promised to count correctly only the submissions
+/// that are one packet, or packets that share one segment. Returns 0, or the first of 1 to 5 of
+/// `sedge_node_status` that applies, or `SEDGE_NODE_MEMORY`.
 #[unsafe(no_mangle)]
 #[must_use]
 pub extern "C" fn sedge_ground_submit(

@@ -79,12 +79,12 @@ pub extern "C" fn sedge_ground_kept(
     read!(alloc, ground, kept, |node| record(&node))
 }
 
-/// Opens a ground that continues, in S6, from the record that `sedge_ground_kept` wrote of a lost one: with
-/// its V(S), its NN(R) and its counts of submissions. The new ground is the lost one after Terminate, without
-/// what waited, and with the window, the limit and the timer of the configuration. So `sedge_ground_resume`
-/// can begin the next session, as after an alert. A ground that the handle holds is treated as by
-/// `sedge_ground_open`. Returns 0, `SEDGE_NODE_OUT_OF_RANGE` (also for a record that no ground of this
-/// configuration writes) or `SEDGE_NODE_MEMORY`.
+/// Opens a ground that continues from the record of a lost one, which `sedge_ground_kept` wrote. It is in S6,
+/// with the V(S), the NN(R) and the counts of submissions of the record. The new ground is the lost one after
+/// Terminate, without what waited, and with the window, the limit and the timer of the configuration. So
+/// `sedge_ground_resume` can begin the next session, as after an alert. A ground that the handle holds is
+/// treated as by `sedge_ground_open`. Returns 0, `SEDGE_NODE_OUT_OF_RANGE` (also for a record that no ground
+/// of this configuration writes) or `SEDGE_NODE_MEMORY`.
 #[unsafe(no_mangle)]
 #[must_use]
 pub extern "C" fn sedge_ground_open_kept(

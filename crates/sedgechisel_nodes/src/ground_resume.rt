@@ -21,14 +21,14 @@ fn resumed(node: &mut Ground, value: u8, whole: &mut u64) -> u8
     }
 }
 
-/// Begins the next session after an alert, from the point that the ended session reached. Sets V(S) to the
-/// value of a CLCW that was made when nothing was in transit on the uplink, and begins by Unlock (232.1-B-2,
-/// 5.2.4). If V(S) is NN(R), it accepts any value: compare the value with V(S) first. Writes how many of the
-/// ended session's submissions, from the first on, are on board whole; resubmit the rest. A submission of
-/// several packets with more octets than a segment takes (`part`) is whole only with its last packet: some of
-/// its packets may be on board already, and be delivered again. Returns 0. Changes nothing and returns
-/// `SEDGE_NODE_NOT_KNOWN` (10) if the sender is not in S6, no session has begun, V(S) was set since, an alert
-/// has shown a broken condition since, or V(S) is not NN(R) and the value does not lie from NN(R) to V(S).
+/// Begins the next session after an alert, where the ended one stopped. Sets V(S) to the value of a CLCW that
+/// was made when nothing was in transit on the uplink, and begins by Unlock (232.1-B-2, 5.2.4). If V(S) is
+/// NN(R), the call accepts any value, so compare the value with V(S) first. Writes how many of the ended
+/// session's submissions, counted from the first, are on board whole; resubmit the rest. If a submission of
+/// several packets has more octets than a segment takes (`part`), it is whole only with its last packet: some
+/// of its packets may be on board already, and be delivered again. Returns 0. Changes nothing and returns
+/// `SEDGE_NODE_NOT_KNOWN` (10) if the sender is not in S6, no session has begun, V(S) was set or an alert has
+/// shown a broken condition since, or V(S) is not NN(R) and the value does not lie from NN(R) to V(S).
 #[unsafe(no_mangle)]
 #[must_use]
 pub extern "C" fn sedge_ground_resume(

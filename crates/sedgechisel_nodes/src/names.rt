@@ -8,7 +8,7 @@ use c_words::{Text, named};
 use nodes::{LinkFault, Parameter};
 use tc_link::SimFault;
 
-/// The name of a `sedge_parameter`, which is that of its field in `sedge_config`.
+/// The name of a `sedge_parameter`: its field in `sedge_config`.
 #[unsafe(no_mangle)]
 pub extern "C" fn sedge_parameter_name(number: u8) -> Text
     ensures { result.text ≡ text_of (parameter_word number) }
@@ -19,7 +19,7 @@ pub extern "C" fn sedge_parameter_name(number: u8) -> Text
         13 => QueueSlots, 14 => FrameLength, 15 => Blocking)
 }
 
-/// The name of a `sedge_node_status`, 1 to 6 and 10; "?" for another number.
+/// The name of a `sedge_node_status` of 1 to 10, else "?".
 #[unsafe(no_mangle)]
 pub extern "C" fn sedge_link_fault_name(number: u8) -> Text
     ensures { result.text ≡ text_of (link_fault_word number) }

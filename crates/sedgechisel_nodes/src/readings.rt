@@ -18,13 +18,13 @@ use std::alloc::Global;
 #[repr(C)]
 #[derive(Clone, Copy)]
 pub struct GroundReading {
-    /// The number of submissions of the session, which are numbered from 0. This number and the two below are
-    /// modulo 2^64, stay after an alert, and are 0 once V(S) is set.
+    /// The number of the session's submissions, which are numbered from 0. This number and the two below are
+    /// modulo 2^64. An alert does not change them; beginning a session or setting V(S) makes them 0.
     pub submitted: u64,
-    /// How many of the session's submissions, from the first on, were sent whole, up to their last segment.
+    /// How many of the session's submissions, counted from the first, were sent whole, to the last segment.
     pub sent_whole: u64,
-    /// How many of the session's submissions, from the first on, are acknowledged whole, and are therefore on
-    /// board.
+    /// How many of the session's submissions, counted from the first, are acknowledged whole, and are
+    /// therefore on board.
     pub acknowledged_whole: u64,
     /// The number of segments that were submitted and are not acknowledged.
     pub outstanding: usize,
@@ -156,11 +156,11 @@ pub extern "C" fn sedge_spacecraft_read(
 }
 
 /// Writes how many of the segments that were sent and not acknowledged were accepted on board when a CLCW
-/// with this value was made. They are the oldest ones (232.1-B-2, 5.1). The call does so after an alert too,
-/// until V(S) is set or an initiation begins. It uses only the numbers: after an alert that shows a broken
-/// condition, nothing is known of these segments, whatever the call writes. If V(S) is NN(R), there are no
-/// such segments, and the call writes 0 for every value. Returns 0, or `SEDGE_NODE_ABSENT` if there are such
-/// segments and the value does not lie from NN(R) to V(S): nothing is then known of them.
+/// with this value was made: the oldest ones (232.1-B-2, 5.1). The call still does so after an alert, until
+/// V(S) is set or an initiation begins. But it uses only the numbers: after an alert that shows a broken
+/// condition, nothing is known of these segments, whatever it writes. If V(S) is NN(R), there are no such
+/// segments, and it writes 0 for every value. Returns 0, or `SEDGE_NODE_ABSENT` if V(S) is not NN(R) and the
+/// value does not lie from NN(R) to V(S): nothing is then known of the segments.
 #[unsafe(no_mangle)]
 #[must_use]
 pub extern "C" fn sedge_ground_accepted_beyond(
@@ -179,11 +179,11 @@ pub extern "C" fn sedge_ground_accepted_beyond(
     )
 }
 
-/// Writes how many of the session's submissions, from the first on, a CLCW with this value shows to be on
-/// board whole. They are those that are acknowledged, and those whose segments were all accepted according to
-/// the CLCW (232.1-B-2, 5.1). The call does so after an alert too. Returns 0, or `SEDGE_NODE_ABSENT` if
-/// nothing is known: no session has begun, V(S) was set since, an alert has shown a broken condition since,
-/// or V(S) is not NN(R) and the value does not lie from NN(R) to V(S).
+/// Writes how many of the session's submissions, counted from the first, a CLCW with this value shows to be
+/// on board whole: those that are acknowledged, and those whose segments were all accepted according to the
+/// CLCW (232.1-B-2, 5.1). The call still does so after an alert. Returns 0, or `SEDGE_NODE_ABSENT` if nothing
+/// is known: no session has begun, V(S) was set or an alert has shown a broken condition since, or V(S) is
+/// not NN(R) and the value does not lie from NN(R) to V(S).
 #[unsafe(no_mangle)]
 #[must_use]
 pub extern "C" fn sedge_ground_known_on_board(

@@ -17,13 +17,13 @@
  * - A bool is false or true, as it always is if C or C++ converts it from another value.
  *
  * What calls return:
- * - A uint8_t is a number of the one enumeration that the call's comment names, or of sedge_status, which all calls
- *   share. It is SEDGE_OK or the first fault that applies, and a call that returns a fault has written nothing; only
- *   sedge_gap_check_see also records a packet if it returns SEDGE_ABSENT.
- * - Six calls return something other than a fault: a verdict (sedge_farm_ad), a state (sedge_farm_state), what is sent
- *   on the link next (sedge_fop_next), an alert (sedge_fop_clcw, sedge_fop_tick), and what a board does next
- *   (sedge_log_next). If one of these returns SEDGE_ABSENT, SEDGE_WRONG_COUNT or SEDGE_DAMAGED, it has written nothing.
- *   Otherwise it has written what its comment names, whatever it returns.
+ * - Most calls return a uint8_t: SEDGE_OK, or the first fault that applies. The fault is a number of the enumeration
+ *   that the call's comment names, or of sedge_status, which all calls share. A call that returns a fault has written
+ *   nothing. There is one exception: sedge_gap_check_see records the packet even if it returns SEDGE_ABSENT.
+ * - In six calls the uint8_t is something other than a fault: a verdict (sedge_farm_ad), a state (sedge_farm_state),
+ *   what is sent on the link next (sedge_fop_next), an alert (sedge_fop_clcw, sedge_fop_tick), and what a board does
+ *   next (sedge_log_next). If one of these returns SEDGE_ABSENT, SEDGE_WRONG_COUNT or SEDGE_DAMAGED, it has written
+ *   nothing. Otherwise it has written what its comment names, whatever it returns.
  * - A bool states whether something holds (sedge_check_holds, sedge_alert_shows_broken_condition), or whether the call
  *   has written (sedge_check_append, sedge_tm_packet, sedge_map_packet). If it is false, nothing is written.
  * - A size_t is a number of frames (sedge_tc_frames, sedge_tm_extractor_frames), a uint16_t the check of octets
@@ -167,10 +167,10 @@ enum sedge_cop_fault {
 /* What the receiver does with a Type-AD frame. */
 enum sedge_verdict {
     SEDGE_ACCEPTED = 0, /* the expected frame: its data is passed on, and V(R) increases by 1 */
-    SEDGE_AHEAD = 1,    /* in the positive window, ahead of V(R): discarded, a retransmission is requested */
-    SEDGE_NO_BUFFER = 2, /* the expected frame, but no room for it: discarded, a retransmission is requested */
+    SEDGE_AHEAD = 1,    /* in the positive window, ahead of V(R): discarded, and a retransmission is requested */
+    SEDGE_NO_BUFFER = 2, /* the expected frame, but no room for it: discarded, and a retransmission is requested */
     SEDGE_BEHIND = 3,   /* in the negative window: a repetition, discarded */
-    SEDGE_OUTSIDE = 4,  /* outside both windows: discarded, the receiver is locked */
+    SEDGE_OUTSIDE = 4,  /* outside both windows: discarded, and the receiver is locked */
     SEDGE_DISCARDED = 5 /* discarded because of the state */
 };
 
@@ -322,20 +322,23 @@ struct sedge_fop {
  * SEDGE_COP_WINDOW (not 1 to half the width), SEDGE_COP_LIMIT (0) and SEDGE_COP_TIMER (0). */
 SEDGE_CHECK uint8_t sedge_fop_open(struct sedge_fop *fop, uint8_t width, uint8_t window, uint8_t limit, uint16_t timer);
 
-/* The directives (5.2.4). The note of each states what it does, and after "or" the number of the sedge_cop_fault with
- * which it is refused, and when. The calls by name are generated from these notes, in each language. */
+/* The directives (5.2.4). Each note states what the directive does, and after the semicolon the fault that is returned
+ * if it is refused, and in which case. The calls by name are generated from these notes, in each language. */
 enum sedge_directive {
-    SEDGE_INIT_WITHOUT_CHECK = 1, /* initiate without CLCW check: S6 to S1; or 8 unless in S6 */
-    SEDGE_INIT_WITH_CHECK = 2,    /* initiate with CLCW check: S6 to S4, until a CLCW agrees; or 8 unless in S6 */
-    SEDGE_INIT_UNLOCK = 3,        /* initiate with Unlock: S6 to S5, and Unlock is sent; or 8 unless in S6 */
-    SEDGE_INIT_SET_VR = 4,        /* initiate with Set V(R): S6 to S5, V(S) and NN(R) to value, and Set V(R) is sent;
-                                   * or 8 unless in S6 */
-    SEDGE_TERMINATE = 5,          /* terminate: to S6 with the alert Terminated, which discards all units; or 8 in S6 */
-    SEDGE_SET_VS = 6,             /* set V(S), and NN(R) too, to value; or 8 unless in S6 */
-    SEDGE_SET_WINDOW = 7,         /* set the window K to value; or 2 unless it is 1 to half the receiver's window
-                                   * width */
-    SEDGE_SET_LIMIT = 8,          /* set the transmission limit to value; or 3 if it is 0 */
-    SEDGE_SET_TIMER = 9           /* set the timer to value, in ticks; or 4 if it is 0 */
+    SEDGE_INIT_WITHOUT_CHECK = 1, /* initiate without CLCW check: S6 to S1; SEDGE_COP_WRONG_STATE unless in S6 */
+    SEDGE_INIT_WITH_CHECK = 2,    /* initiate with CLCW check: S6 to S4, until a CLCW agrees; SEDGE_COP_WRONG_STATE
+                                   * unless in S6 */
+    SEDGE_INIT_UNLOCK = 3,        /* initiate with Unlock: S6 to S5, and Unlock is sent; SEDGE_COP_WRONG_STATE unless in
+                                   * S6 */
+    SEDGE_INIT_SET_VR = 4,        /* initiate with Set V(R): S6 to S5, V(S) and NN(R) are set to value, and Set V(R) is
+                                   * sent; SEDGE_COP_WRONG_STATE unless in S6 */
+    SEDGE_TERMINATE = 5,          /* terminate: to S6 with the alert Terminated, which discards all units;
+                                   * SEDGE_COP_WRONG_STATE in S6 */
+    SEDGE_SET_VS = 6,             /* set both V(S) and NN(R) to value; SEDGE_COP_WRONG_STATE unless in S6 */
+    SEDGE_SET_WINDOW = 7,         /* set the window K to value; SEDGE_COP_WINDOW unless it is 1 to half the receiver's
+                                   * window width */
+    SEDGE_SET_LIMIT = 8,          /* set the transmission limit to value; SEDGE_COP_LIMIT if it is 0 */
+    SEDGE_SET_TIMER = 9           /* set the timer to value, in ticks; SEDGE_COP_TIMER if it is 0 */
 };
 
 /* Gives the sender a directive, of sedge_directive, with its value; a directive without a value ignores it. Returns 0,
@@ -382,8 +385,8 @@ SEDGE_CHECK uint8_t sedge_fop_next(struct sedge_fop *fop, uint8_t *number);
 
 /* Takes a CLCW for the sender of the virtual channel vcid. The call compares this number with the CLCW's vcid; the
  * caller has already compared the scid of the telemetry frame that carried the CLCW. Returns the alert, of sedge_alert,
- * and writes how many units are acknowledged, the oldest of those sent. Or returns the first of SEDGE_ABSENT, if the
- * CLCW reports on another channel, and SEDGE_DAMAGED, with nothing written and nothing changed. */
+ * and writes how many units are acknowledged, the oldest of those sent. Writes and changes nothing, and returns
+ * SEDGE_ABSENT if the CLCW reports on another channel, or else SEDGE_DAMAGED if a struct is damaged. */
 SEDGE_CHECK uint8_t sedge_fop_clcw(struct sedge_fop *fop, uint8_t vcid, const struct sedge_clcw *word,
                                    uint8_t *released);
 
@@ -391,11 +394,11 @@ SEDGE_CHECK uint8_t sedge_fop_clcw(struct sedge_fop *fop, uint8_t vcid, const st
 SEDGE_CHECK uint8_t sedge_fop_tick(struct sedge_fop *fop);
 
 /* Writes how many of the units that were sent and not acknowledged were accepted on board when a CLCW with this value
- * was made. They are the oldest ones, with the numbers from NN(R) to value - 1 (5.1). The call does so after an alert
- * too, until V(S) is set or an initiation begins. It uses only the numbers: after an alert that shows a broken
- * condition, nothing is known of these units, whatever the call writes. If V(S) is NN(R), there are no such units, and
- * the call writes 0 for every value. Returns 0, or SEDGE_DAMAGED, or SEDGE_ABSENT if there are such units and the value
- * does not lie from NN(R) to V(S): nothing is then known of them, and nothing is written. */
+ * was made: the oldest ones, with the numbers from NN(R) to value - 1 (5.1). The call still does so after an alert,
+ * until V(S) is set or an initiation begins. But it uses only the numbers: after an alert that shows a broken
+ * condition, nothing is known of these units, whatever it writes. If V(S) is NN(R), there are no such units, and it
+ * writes 0 for every value. Returns 0, or SEDGE_DAMAGED, or, with nothing written, SEDGE_ABSENT if V(S) is not NN(R)
+ * and the value does not lie from NN(R) to V(S): nothing is then known of these units. */
 SEDGE_CHECK uint8_t sedge_fop_accepted_beyond(const struct sedge_fop *fop, uint8_t value, uint8_t *accepted);
 
 /* Writes what sedge_fop_accepted_beyond writes for a sender with this NN(R) and this V(S). Returns 0, or SEDGE_ABSENT
@@ -632,10 +635,11 @@ SEDGE_CHECK uint8_t sedge_tm_builder_build(struct sedge_tm_builder *builder, con
                                            size_t *total);
 
 /* An extractor of the packets of one virtual channel. Initialise it to {0, 0, 0, 0}; its fields may be read at any
- * time. The memory holds the part, the beginning of a packet that has not ended, and after a frame also the packet
- * that the frame ended. The memory is large enough if it has as many octets as the longest packet (idle packets
- * included) and the data of a frame together. 67,578 octets are enough for all packets. A call returns SEDGE_DAMAGED if
- * seen is above 1, if the part is not in the memory, or if there is a part although no frame was seen. */
+ * time. The beginning of a packet that has not ended is called the part; the memory holds it. After a frame that ends
+ * such a packet, the memory holds the whole packet too. The memory is large enough if it has as many octets as the
+ * longest packet (idle packets included) and the data of a frame together. 67,578 octets are enough for all packets. A
+ * call returns SEDGE_DAMAGED if seen is above 1, if the part is not in the memory, or if there is a part although no
+ * frame was seen. */
 struct sedge_tm_extractor {
     size_t from;  /* where the part is in the memory */
     size_t count; /* the number of octets of the part, or 0 if there is none */
@@ -711,7 +715,8 @@ enum sedge_where {
 /* A MAP on board. The caller keeps it, and its memory of as many octets as the longest packet may have. Initialise it
  * to {0, 0, 0}, or with blocking to {0, 0, 1}; with blocking, an alone segment may hold several whole packets. The
  * first octets of the memory are the open part, the beginning of a packet that is not whole yet. A call returns
- * SEDGE_DAMAGED if a flag is above 1, if count is above the memory's, or if count is above 0 with no part open. */
+ * SEDGE_DAMAGED if a flag is above 1, if count is above the number of octets of the memory, or if count is above 0
+ * although no part is open. */
 struct sedge_map {
     size_t count;     /* the number of octets of the open part, or 0 if none is open */
     uint8_t open;     /* whether a part is open, 0 or 1 */
@@ -744,7 +749,7 @@ enum sedge_map_fault {
 struct sedge_limits {
     uint32_t part;       /* the maximum length of a segment's data in octets, at least 1 */
     uint32_t max_packet; /* the maximum length of a packet in octets */
-    uint8_t blocking;    /* whether packets that have at most part octets together go into one segment, 0 or 1 */
+    uint8_t blocking;    /* whether packets that together have at most part octets go into one segment, 0 or 1 */
 };
 
 /* Writes the number of segments into which a packet is cut, or with blocking one or more packets, one after another.
@@ -854,8 +859,8 @@ void sedge_log_start(struct sedge_log *log, const uint8_t *first, size_t first_c
 
 /* Returns the program's next action, of sedge_log_action. The program completes this action and calls sedge_log_done
  * before it calls sedge_log_next again. For a write, out receives the 50 octets of the place; otherwise it does not
- * change. number receives the number of the command to be executed, or 0 for any other action. Or returns the first of
- * SEDGE_WRONG_COUNT, if the buffer is not 50 octets long, and SEDGE_DAMAGED, with nothing written. */
+ * change. number receives the number of the command to be executed, or 0 for any other action. Writes nothing and
+ * returns SEDGE_WRONG_COUNT if the buffer is not 50 octets long, or else SEDGE_DAMAGED if the struct is damaged. */
 SEDGE_CHECK uint8_t sedge_log_next(const struct sedge_log *log, uint8_t *out, size_t room, uint32_t *number);
 
 /* Records that the action that sedge_log_next returned, with its number, is complete. Returns 0; or it changes nothing
@@ -865,16 +870,16 @@ SEDGE_CHECK uint8_t sedge_log_done(struct sedge_log *log, uint8_t action, uint32
 /* Takes the octets of a packet that arrived, if it is the next command, and writes where the mission's octets are in
  * them. Keep the mission's octets until the command has been executed, after sedge_log_next has returned
  * SEDGE_LOG_EXECUTE with its number. Returns 0, or else drops the packet, changes and writes nothing, and returns
- * SEDGE_DAMAGED or the first of 1 to 7 of sedge_log_fault: 1 Layout, then 2 Check, then 3 Starting, 4 Busy or 5 Lost,
- * then 6 Behind or 7 Ahead. */
+ * SEDGE_DAMAGED or the first that applies of 1 to 7 of sedge_log_fault: 1 Layout, then 2 Check, then 3 Starting, 4 Busy
+ * or 5 Lost, then 6 Behind or 7 Ahead. */
 SEDGE_CHECK uint8_t sedge_log_offer(struct sedge_log *log, const uint8_t *octets, size_t count,
                                     struct sedge_part *content);
 
 /* Takes the octets of an order that arrived. An order to restart makes SEDGE_LOG_RESTART the next action. A board that
  * has lost its record continues with the one that the order brings, if the order has the mark of this loss. Returns 0,
- * or else drops the packet, changes nothing, and returns SEDGE_DAMAGED, the first of 1 to 5 of sedge_log_fault, or 8 to
- * 10 of sedge_log_fault: 1 Layout, then 2 Check; of a restart 3 Starting, 4 Busy or 5 Lost, then 8 OtherBoot; of a
- * record 9 NotLost, then 10 OtherMark. */
+ * or else drops the packet, changes nothing, and returns SEDGE_DAMAGED or the first that applies of 1 to 5 and 8 to 10
+ * of sedge_log_fault: 1 Layout, then 2 Check; then for a restart 3 Starting, 4 Busy or 5 Lost, and then 8 OtherBoot;
+ * for a record 9 NotLost, and then 10 OtherMark. */
 SEDGE_CHECK uint8_t sedge_log_obey(struct sedge_log *log, const uint8_t *octets, size_t count);
 
 /* Writes the status for telemetry, 27 octets, with the number of commands that wait on board to be offered; a number
@@ -939,12 +944,12 @@ struct sedge_text sedge_log_fault_name(uint8_t fault);    /* the name of a sedge
 
 /* ---- What an alert means. ---- */
 
-/* Returns whether a sedge_alert shows a broken condition of the link: true for SEDGE_ALERT_LOCKOUT, SEDGE_ALERT_NNR,
- * SEDGE_ALERT_CLCW and SEDGE_ALERT_SYNCH. None of these can occur in a confirmed session begun by check, Unlock or Set
- * V(R) while the conditions hold. So the board restarted, the link reorders or repeats frames, or there is a second
- * station; in other sessions, the receiver's earlier state may be the cause. Nothing is then known of what is on board:
- * begin again, as after a reset. Returns false for any other number. After other alerts, the next session can resume
- * where this one ended. */
+/* Returns whether a sedge_alert shows a broken condition of the link (README.md): true for SEDGE_ALERT_LOCKOUT,
+ * SEDGE_ALERT_NNR, SEDGE_ALERT_CLCW and SEDGE_ALERT_SYNCH. If the session was begun by check, Unlock or Set V(R) and
+ * confirmed by a CLCW, a condition was broken: for example, the board restarted, the link reorders or repeats frames,
+ * or there is a second station. Otherwise the receiver's earlier state may be the cause. Nothing is then known of what
+ * is on board: begin again, as after a reset. Returns false for any other number. After other alerts, the next session
+ * can resume where this one ended. */
 bool sedge_alert_shows_broken_condition(uint8_t alert);
 
 /* Returns what to look for after a sedge_alert, and how to recover, in words for an operator; "?" for any other

@@ -41,8 +41,8 @@ macro_rules! directives {
             self.direct($crate::directives::SEDGE_INIT_UNLOCK, 0)
         }
 
-        /// The directive (232.1-B-2, 5.2.4) to initiate with Set V(R): S6 to S5, V(S) and NN(R) to `vr`, and Set V(R)
-        /// is sent.
+        /// The directive (232.1-B-2, 5.2.4) to initiate with Set V(R): S6 to S5, V(S) and NN(R) are set to `vr`, and
+        /// Set V(R) is sent.
         ///
         /// # Errors
         ///
@@ -60,7 +60,7 @@ macro_rules! directives {
             self.direct($crate::directives::SEDGE_TERMINATE, 0)
         }
 
-        /// The directive (232.1-B-2, 5.2.4) to set V(S), and NN(R) too, to `vs`.
+        /// The directive (232.1-B-2, 5.2.4) to set both V(S) and NN(R) to `vs`.
         ///
         /// # Errors
         ///

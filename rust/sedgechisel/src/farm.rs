@@ -25,13 +25,13 @@ numbers! {
     Verdict {
         /// The expected frame: its data is passed on, and V(R) increases by 1.
         Accepted = 0,
-        /// In the positive window, ahead of V(R): discarded, a retransmission is requested.
+        /// In the positive window, ahead of V(R): discarded, and a retransmission is requested.
         Ahead = 1,
-        /// The expected frame, but no room for it: discarded, a retransmission is requested.
+        /// The expected frame, but no room for it: discarded, and a retransmission is requested.
         NoBuffer = 2,
         /// In the negative window: a repetition, discarded.
         Behind = 3,
-        /// Outside both windows: discarded, the receiver is locked.
+        /// Outside both windows: discarded, and the receiver is locked.
         Outside = 4,
         /// Discarded because of the state.
         Discarded = 5,

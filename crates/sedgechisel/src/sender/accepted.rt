@@ -10,12 +10,12 @@ use crate::numbers::ABSENT;
 use cop1::accepted_beyond;
 
 /// Writes how many of the units that were sent and not acknowledged were accepted on board when a CLCW with
-/// this value was made. They are the oldest ones, with the numbers from NN(R) to value - 1 (5.1). The call
-/// does so after an alert too, until V(S) is set or an initiation begins. It uses only the numbers: after an
-/// alert that shows a broken condition, nothing is known of these units, whatever the call writes. If V(S) is
-/// NN(R), there are no such units, and the call writes 0 for every value. Returns 0, or `SEDGE_DAMAGED`, or
-/// `SEDGE_ABSENT` if there are such units and the value does not lie from NN(R) to V(S): nothing is then
-/// known of them, and nothing is written.
+/// this value was made: the oldest ones, with the numbers from NN(R) to value - 1 (5.1). The call still does
+/// so after an alert, until V(S) is set or an initiation begins. But it uses only the numbers: after an alert
+/// that shows a broken condition, nothing is known of these units, whatever it writes. If V(S) is NN(R),
+/// there are no such units, and it writes 0 for every value. Returns 0, or `SEDGE_DAMAGED`, or, with nothing
+/// written, `SEDGE_ABSENT` if V(S) is not NN(R) and the value does not lie from NN(R) to V(S): nothing is
+/// then known of these units.
 #[unsafe(no_mangle)]
 #[must_use]
 pub extern "C" fn sedge_fop_accepted_beyond(sender: &KeptSender, value: u8, accepted: &mut u8) -> u8

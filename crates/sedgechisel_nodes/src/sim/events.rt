@@ -67,10 +67,10 @@ fn octet_in(value: u16) -> Option<u8>
 }
 
 /// Lets an event happen. Returns 0 and writes the reply; a node's refusal is a reply too. Returns a number of
-/// `sedge_sim_fault` if nothing happens. Returns `SEDGE_NODE_NONE` also for a number that is not a kind, for
-/// a directive and a value for which `sedge_ground_directive` returns it, and for a resumption with a value
-/// above 255. No directive, resumption, loss, damage, CLCW by itself, tick or take returns
-/// `SEDGE_SIM_MEMORY`. The octets of a frame that was sent, and of a packet that was taken, can be read until
+/// `sedge_sim_fault` if nothing happens; it is not `SEDGE_SIM_MEMORY` for a directive, a resumption, a loss,
+/// damage, a CLCW by itself, a tick or a take. Returns `SEDGE_NODE_NONE` also for a number that is not a
+/// kind, for a directive and a value for which `sedge_ground_directive` returns it, and for a resumption with
+/// a value above 255. The octets of a frame that was sent, and of a packet that was taken, can be read until
 /// the next event (`sedge_sim_octets`).
 #[unsafe(no_mangle)]
 #[must_use]

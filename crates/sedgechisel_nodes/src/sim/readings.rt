@@ -19,7 +19,7 @@ use tc_link::Sim;
 pub struct SimReading {
     /// The number of segments that were submitted and are not acknowledged.
     pub outstanding: usize,
-    /// How many of the frames sent, from the first on, the ground regards as acknowledged.
+    /// How many of the frames sent, counted from the first, the ground regards as acknowledged.
     pub acknowledged: usize,
     /// The state of the ground's sender, of `sedge_fop_state`.
     pub state: u8,
@@ -27,7 +27,7 @@ pub struct SimReading {
     pub begun: u8,
     /// The number of Set V(R).
     pub vr: u8,
-    /// The session began with nothing in transit, and without a CLCW check only if V(R) was V(S).
+    /// The session began with nothing in transit and, if without a CLCW check, with V(R) equal to V(S).
     pub clean: bool,
     /// The session had an idle start (docs/PROMISES.md).
     pub idle: bool,
