@@ -577,10 +577,10 @@ export interface Calls {
      * record of 12 octets for each to `out`, in order. A record begins with the number of the frame's octets and the
      * number that `sedge_tc_decode` returns for the frame. Then come the scid, vcid, kind, n, flags, map, command and
      * vr that it writes, or 0 for each if it refuses the frame. The number of octets and the scid take two octets each,
-     * the lower one first. The data of a Type-AD or Type-BD frame begin 6 octets after the frame does. Stops when `out`
-     * has no room for a record, or when no whole frame follows; call `sedge_tc_declared` with the octets there to find
-     * out whether their length is refused. Writes the number of octets of all these frames to `total`. Returns the
-     * number of frames.
+     * the lower one first; the others take one. The data of a Type-AD or Type-BD frame begin 6 octets after the frame
+     * does. Stops when `out` has no room for a record, or when no whole frame follows; `sedge_tc_declared`, called with
+     * the octets there, shows whether their length is refused. Writes the number of octets of all these frames to
+     * `total`. Returns the number of frames.
      */
     sedge_tc_frames(octets: Uint8Array, checked: boolean, out: Uint8Array, total: Partial<Box>): number;
     /**
@@ -660,13 +660,13 @@ export interface Calls {
      * Takes the frames of this length that follow one another in the octets, each as `sedge_tm_decode` and then
      * `sedge_tm_extractor_frame` take it. Writes a record of 19 octets for each frame to `out`, in order. A record
      * begins with the number of octets of the frame's packets (four octets, the lowest one first), and the first fault
-     * of these two calls, or 0. Then come first, lost and dropped; dropped is 1 if a begun packet that is not idle is
-     * dropped, and otherwise 0. The record ends with the frame's fields: the scid and the pointer (two octets each, the
-     * lower one first), the vcid, mc_count, vc_count and ocf. These fields are 0 if the octets do not form a valid
-     * frame. Writes the packets of all these frames to `packets`, one after another: `sedge_map_packet` finds where
-     * each begins. Stops when `out` has no room for a record, when `packets` has no room for as many octets as the
-     * memory and a frame have together, or when no whole frame follows. Takes no frame if the length is 0. Writes the
-     * number of octets of all these packets to `total`. Returns the number of frames.
+     * of these two calls, or 0. Then come first, lost and dropped, one octet each; dropped is 1 if a packet that was
+     * begun and is not idle is dropped, and otherwise 0. The record ends with the frame's fields: the scid and the
+     * pointer (two octets each, the lower one first), the vcid, mc_count, vc_count and ocf. These fields are 0 if the
+     * octets do not form a valid frame. Writes the packets of all these frames to `packets`, one after another:
+     * `sedge_map_packet` finds where each begins. Stops when `out` has no room for a record, when `packets` has no room
+     * for as many octets as the memory and a frame have together, or when no whole frame follows. Takes no frame if the
+     * length is 0. Writes the number of octets of all these packets to `total`. Returns the number of frames.
      */
     sedge_tm_extractor_frames(extractor: Partial<sedge_tm_extractor>, octets: Uint8Array, frame_length: number, memory: Uint8Array, out: Uint8Array, packets: Uint8Array, total: Partial<Box>): number;
     /**
@@ -680,8 +680,8 @@ export interface Calls {
      */
     sedge_map_packet(octets: Uint8Array, packet: Partial<sedge_part>): boolean;
     /**
-     * Writes the number of segments into which a packet is cut, or with blocking one or more packets, one after
-     * another. Returns 0, or `SEDGE_DAMAGED`, or the first of `sedge_map_fault` that applies.
+     * Writes the number of segments of one packet, or with blocking of one or more packets, one after another. Returns
+     * 0, or `SEDGE_DAMAGED`, or the first of `sedge_map_fault` that applies.
      */
     sedge_map_count(octets: Uint8Array, limits: Partial<sedge_limits>, segments: Partial<Box>): number;
     /**

@@ -115,10 +115,10 @@ pub extern "C" fn sedge_tc_declared(octets: &[u8], checked: bool, total: &mut us
 /// a record of 12 octets for each to `out`, in order. A record begins with the number of the frame's octets
 /// and the number that `sedge_tc_decode` returns for the frame. Then come the scid, vcid, kind, n, flags,
 /// map, command and vr that it writes, or 0 for each if it refuses the frame. The number of octets and the
-/// scid take two octets each, the lower one first. The data of a Type-AD or Type-BD frame begin 6 octets
-/// after the frame does. Stops when `out` has no room for a record, or when no whole frame follows; call
-/// `sedge_tc_declared` with the octets there to find out whether their length is refused. Writes the number
-/// of octets of all these frames to `total`. Returns the number of frames.
+/// scid take two octets each, the lower one first; the others take one. The data of a Type-AD or Type-BD
+/// frame begin 6 octets after the frame does. Stops when `out` has no room for a record, or when no whole
+/// frame follows; `sedge_tc_declared`, called with the octets there, shows whether their length is refused.
+/// Writes the number of octets of all these frames to `total`. Returns the number of frames.
 #[unsafe(no_mangle)]
 pub extern "C" fn sedge_tc_frames(
     octets: &[u8],

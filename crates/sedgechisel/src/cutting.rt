@@ -34,8 +34,8 @@ struct Place {
     count: usize,
 }
 
-/// Writes the number of segments into which a packet is cut, or with blocking one or more packets, one after
-/// another. Returns 0, or `SEDGE_DAMAGED`, or the first of `sedge_map_fault` that applies.
+/// Writes the number of segments of one packet, or with blocking of one or more packets, one after another.
+/// Returns 0, or `SEDGE_DAMAGED`, or the first of `sedge_map_fault` that applies.
 #[unsafe(no_mangle)]
 #[must_use]
 pub extern "C" fn sedge_map_count(octets: &[u8], limits: &CutLimits, segments: &mut usize) -> u8

@@ -21,14 +21,14 @@ use tm_link::{Ending, Pointer, ending_with, gap_before, is_idle_with, is_lost};
 /// Takes the frames of this length that follow one another in the octets, each as `sedge_tm_decode` and then
 /// `sedge_tm_extractor_frame` take it. Writes a record of 19 octets for each frame to `out`, in order. A
 /// record begins with the number of octets of the frame's packets (four octets, the lowest one first), and
-/// the first fault of these two calls, or 0. Then come first, lost and dropped; dropped is 1 if a begun
-/// packet that is not idle is dropped, and otherwise 0. The record ends with the frame's fields: the scid and
-/// the pointer (two octets each, the lower one first), the vcid, mc_count, vc_count and ocf. These fields are
-/// 0 if the octets do not form a valid frame. Writes the packets of all these frames to `packets`, one after
-/// another: `sedge_map_packet` finds where each begins. Stops when `out` has no room for a record, when
-/// `packets` has no room for as many octets as the memory and a frame have together, or when no whole frame
-/// follows. Takes no frame if the length is 0. Writes the number of octets of all these packets to `total`.
-/// Returns the number of frames.
+/// the first fault of these two calls, or 0. Then come first, lost and dropped, one octet each; dropped is 1
+/// if a packet that was begun and is not idle is dropped, and otherwise 0. The record ends with the frame's
+/// fields: the scid and the pointer (two octets each, the lower one first), the vcid, mc_count, vc_count and
+/// ocf. These fields are 0 if the octets do not form a valid frame. Writes the packets of all these frames to
+/// `packets`, one after another: `sedge_map_packet` finds where each begins. Stops when `out` has no room for
+/// a record, when `packets` has no room for as many octets as the memory and a frame have together, or when
+/// no whole frame follows. Takes no frame if the length is 0. Writes the number of octets of all these
+/// packets to `total`. Returns the number of frames.
 #[unsafe(no_mangle)]
 pub extern "C" fn sedge_tm_extractor_frames(
     extractor: &mut KeptExtractor,

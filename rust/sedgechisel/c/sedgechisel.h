@@ -477,10 +477,10 @@ SEDGE_CHECK uint8_t sedge_tc_declared(const uint8_t *octets, size_t count, bool 
 /* Reads the frames that follow one another in the octets, each as long as it declares (4.1.2.7), and writes a record of
  * 12 octets for each to out, in order. A record begins with the number of the frame's octets and the number that
  * sedge_tc_decode returns for the frame. Then come the scid, vcid, kind, n, flags, map, command and vr that it writes,
- * or 0 for each if it refuses the frame. The number of octets and the scid take two octets each, the lower one first.
- * The data of a Type-AD or Type-BD frame begin 6 octets after the frame does. Stops when out has no room for a record,
- * or when no whole frame follows; call sedge_tc_declared with the octets there to find out whether their length is
- * refused. Writes the number of octets of all these frames to total. Returns the number of frames. */
+ * or 0 for each if it refuses the frame. The number of octets and the scid take two octets each, the lower one first;
+ * the others take one. The data of a Type-AD or Type-BD frame begin 6 octets after the frame does. Stops when out has
+ * no room for a record, or when no whole frame follows; sedge_tc_declared, called with the octets there, shows whether
+ * their length is refused. Writes the number of octets of all these frames to total. Returns the number of frames. */
 size_t sedge_tc_frames(const uint8_t *octets, size_t count, bool checked, uint8_t *out, size_t room, size_t *total);
 
 /* ---- Space packets of 7 to 65,542 octets (133.0-B-2, 4.1). ---- */
@@ -678,13 +678,13 @@ SEDGE_CHECK bool sedge_tm_packet(const uint8_t *data, size_t data_count, struct 
 /* Takes the frames of this length that follow one another in the octets, each as sedge_tm_decode and then
  * sedge_tm_extractor_frame take it. Writes a record of 19 octets for each frame to out, in order. A record begins with
  * the number of octets of the frame's packets (four octets, the lowest one first), and the first fault of these two
- * calls, or 0. Then come first, lost and dropped; dropped is 1 if a begun packet that is not idle is dropped, and
- * otherwise 0. The record ends with the frame's fields: the scid and the pointer (two octets each, the lower one
- * first), the vcid, mc_count, vc_count and ocf. These fields are 0 if the octets do not form a valid frame. Writes the
- * packets of all these frames to packets, one after another: sedge_map_packet finds where each begins. Stops when out
- * has no room for a record, when packets has no room for as many octets as the memory and a frame have together, or
- * when no whole frame follows. Takes no frame if the length is 0. Writes the number of octets of all these packets to
- * total. Returns the number of frames. */
+ * calls, or 0. Then come first, lost and dropped, one octet each; dropped is 1 if a packet that was begun and is not
+ * idle is dropped, and otherwise 0. The record ends with the frame's fields: the scid and the pointer (two octets each,
+ * the lower one first), the vcid, mc_count, vc_count and ocf. These fields are 0 if the octets do not form a valid
+ * frame. Writes the packets of all these frames to packets, one after another: sedge_map_packet finds where each
+ * begins. Stops when out has no room for a record, when packets has no room for as many octets as the memory and a
+ * frame have together, or when no whole frame follows. Takes no frame if the length is 0. Writes the number of octets
+ * of all these packets to total. Returns the number of frames. */
 size_t sedge_tm_extractor_frames(struct sedge_tm_extractor *extractor, const uint8_t *octets, size_t count,
                                  size_t frame_length, uint8_t *memory, size_t memory_room, uint8_t *out,
                                  size_t out_room, uint8_t *packets, size_t packets_room, size_t *total);
@@ -752,8 +752,8 @@ struct sedge_limits {
     uint8_t blocking;    /* whether packets that together have at most part octets go into one segment, 0 or 1 */
 };
 
-/* Writes the number of segments into which a packet is cut, or with blocking one or more packets, one after another.
- * Returns 0, or SEDGE_DAMAGED, or the first of sedge_map_fault that applies. */
+/* Writes the number of segments of one packet, or with blocking of one or more packets, one after another. Returns 0,
+ * or SEDGE_DAMAGED, or the first of sedge_map_fault that applies. */
 SEDGE_CHECK uint8_t sedge_map_count(const uint8_t *octets, size_t count, const struct sedge_limits *limits,
                                     size_t *segments);
 

@@ -18,7 +18,7 @@ extern "C" {
 
 /* The answer to a request. */
 struct sedge_place {
-    bool found; /* whether there is a place */
+    bool found; /* whether a place was found */
     void *at;   /* where it begins; if none was found, any address except null, which is not used */
 };
 
@@ -45,8 +45,8 @@ struct sedge_static_places {
     size_t most;
 };
 
-/* Writes size k, counted from 0, the smallest first. Returns true; or returns false and writes nothing if there are not
- * that many sizes. */
+/* Writes the places of size k; sizes are counted from 0, the smallest first. Returns true; or returns false and writes
+ * nothing if there are not that many sizes. */
 bool sedge_static_size(size_t k, struct sedge_static_places *size);
 
 /* Frees all places, as at the start; the maximum numbers used stay. The call needs no handle, so it helps if one was
