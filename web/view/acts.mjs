@@ -1,6 +1,6 @@
-// Does in the page what people do, and says of each act whether the page then is as it should be. web/check_page puts it
-// into a copy of the page; at last the page is a line for each act. Times are limits on a machine that is not busy with
-// anything else: how busy it is, is measured, and the limits are longer by that.
+// Does in the page what people do, and reports for each act whether the page then shows what it should. web/check adds
+// it to a copy of the page, which at the end shows a line for each act. Time limits are for an idle machine. It
+// measures how busy the machine is, and extends them accordingly.
 const at = (name) => document.getElementById(name);
 const saved = []; // the files that the page has saved
 const OWN = 'init none\nsubmit 4 1005C0000000AA\nsend\nup deliver\nreport\ndown deliver\nshow\n';
@@ -41,7 +41,7 @@ function click(element) {
     element.dispatchEvent(new MouseEvent('click', { bubbles: true }));
 }
 
-// The page begins anew with an address.
+// Goes to an address, and waits until the page has begun again there.
 async function goTo(hash, what, holds) {
     if (location.hash === hash) history.replaceState(null, '', '#');
     const isChanged = new Promise((end) => { addEventListener('hashchange', end, { once: true }); });
@@ -58,7 +58,7 @@ async function own(text = OWN) {
     await until('the script is played', () => at('end').getAttribute('aria-disabled') === 'true');
 }
 
-// How many times longer than on a machine of its own a fixed piece of work takes now.
+// Returns how many times longer a fixed piece of work takes now than on an idle machine.
 function slowness() {
     const begun = performance.now();
     let it = 1;
@@ -95,7 +95,7 @@ const lines = () => [...at('lines').querySelectorAll('code')].map((it) => it.tex
 const turns = () => [...at('ladder').querySelectorAll('.turn')].map((it) => it.textContent);
 const arrow = (k) => at('ladder').querySelectorAll('[data-gone]')[k];
 
-// 1: nothing that is typed is lost.
+// 1: no typed text is lost.
 
 async function typing() {
     const text = `${OWN}fly\n`;
@@ -139,7 +139,7 @@ async function undoing() {
     is(at('text').value, OWN, 'the text after the key of Undo');
 }
 
-// A button that is refused says what to do, and a grey one why it does nothing, which it then does.
+// A refused button shows what to do. A grey button shows why it does nothing, and then does nothing.
 async function refusals() {
     await own();
     const inserts = (line, advice) => {
@@ -167,7 +167,7 @@ async function droppedScript() {
     is([at('scripts').hidden, at('captures').hidden, at('listed').children.length], [false, true, 0], 'the views');
 }
 
-// 2: a run is a link, a file and a picture.
+// 2: a run becomes a link, a file and a picture.
 
 async function addresses() {
     await goTo('#example=lost_frame&line=20', 'a line of an example', () => at('last').textContent.startsWith('Line 20'));
@@ -256,7 +256,7 @@ async function files() {
     is(picture.width > 500 && picture.height > 500, true, 'the size of the PNG');
 }
 
-// An example that is chosen is played to its end, and the menu says what both machines do there.
+// A chosen example is played to its end, and the menu lists what both machines do in it.
 async function examples() {
     const options = [...at('example').options].filter(({ value }) => value !== '');
     await own(`${OWN}${'tick\n'.repeat(90)}`);
@@ -297,7 +297,7 @@ async function states() {
     colours();
 }
 
-// Each end of a row has the colour that the legend has for its state.
+// Each end of a row has the colour that the legend shows for its state.
 function colours() {
     const shown = (it, name) => getComputedStyle(it)[name];
     const keys = [...at('states').querySelectorAll('i')];
@@ -309,8 +309,8 @@ function colours() {
     }
 }
 
-// A cause names lines, each of which is a button that goes there. The rows after the chosen one stay, and the bars of
-// the states are above what marks a row.
+// A cause names lines. Each is a button that goes to its line. The rows after the chosen one stay, and the bars of the
+// states are drawn over the marking of the chosen row.
 async function causes() {
     const box = () => at('ladder').getBoundingClientRect(), isSeen = (it) => it.getBoundingClientRect().top >= box().top
         && it.getBoundingClientRect().bottom <= box().bottom;
@@ -344,7 +344,7 @@ async function causes() {
     is([isSeen(found('.lost.cross')), at('end').getAttribute('aria-disabled')], [true, 'true'], 'the frame that was lost');
 }
 
-// The guided scenarios: each has remarks, and ends with all acknowledged and so many packets delivered.
+// The guided scenarios: each has remarks, and ends with everything acknowledged and this many packets delivered.
 async function scenarios() {
     const counts = { lost_frame: 3, lost_clcw: 2, lockout: 1, full_buffer: 2, outage_and_resume: 1, board_restart: 1 };
     for (const [name, count] of Object.entries(counts)) {
@@ -360,7 +360,7 @@ async function scenarios() {
     is(told.includes('AD 3 discarded'), true, 'an old frame is discarded');
 }
 
-// 7: commands that are executed once, over restarts and torn writes.
+// 7: commands are executed once, over restarts and torn writes.
 async function commands() {
     const said = () => at('step-said').textContent, note = () => at('step-said').querySelector('.note').textContent;
     const fates = () => [...at('fates').rows].map((it) => it.cells[2].textContent);
@@ -400,8 +400,8 @@ async function commands() {
     at('to-scripts').click();
 }
 
-// 6: parameters are chosen by sliders. A frame of 128 octets takes 0.128 s at 8,000 bit/s, and the longest round trip
-// 9.128 s, which is 72 frames (docs/CHOOSING.md).
+// 6: sliders set parameters. A frame of 128 octets takes 0.128 s at 8,000 bit/s. The longest round trip is 9.128 s, or
+// 72 frames (docs/CHOOSING.md).
 async function choosing() {
     at('to-choosing').click();
     const numbers = { rate: '8000', octets: '128', trip: '8', loss: '5', packets: '100' };
@@ -481,7 +481,7 @@ async function large() {
     await own();
 }
 
-// 8: as it is seen and heard.
+// 8: how the page looks and sounds.
 
 function luminance(colour) {
     const it = colour.length === 4 ? colour.replace(/[^#]/g, '$&$&') : colour;
@@ -571,7 +571,7 @@ const ACTS = {
     'no scrollbar, and panels that stay': still,
 };
 
-// Keeps what the page saves.
+// Keeps the files that the page saves.
 function keepFiles() {
     const parts = new Map(), { createObjectURL } = URL;
     URL.createObjectURL = (part) => {

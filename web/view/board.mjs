@@ -1,13 +1,13 @@
-// A board that executes each command once, over restarts. The library's Executor decides what it does next; here are
-// only the two places of its memory, the restarts, and the ground, which sends the command after the last one that the
-// status states. A run follows from its changes: a restart, a torn write or a delayed copy at one of its steps.
+// A board that executes each command once, over restarts. The library's Executor decides what it does next. This module
+// adds only the two places of its memory, the restarts, and the ground, which sends the command after the last one in
+// the status. A run is determined by its changes: a restart, a torn write or a delayed copy at one of its steps.
 import { BoardStatus, Executor, commandPacket, historyAfter, newRecord } from '../executor.mjs';
 
 export const COMMANDS = 5;
 const APID = 5, MOST = 500, NONE = new Uint8Array(0);
 const PLACES = { WRITE_FIRST: [0, 'first'], WRITE_SECOND: [1, 'second'] };
 
-// The guided run: what happens at some of its steps, and what they show.
+// The guided run: the changes at some of its steps, and notes on them.
 export const GUIDE = [
     { at: 0, note: 'Both places have the record of a new board. At each start the board writes one copy over the '
         + 'other, and increases the boot count by 1.' },
@@ -27,19 +27,19 @@ export const GUIDE = [
         + 'and the board never executes them again.' },
 ];
 
-// The record at a place, as the library reads it at a start; null if there is none.
+// Returns the record at a place, as the library reads it at a start, or null if there is none.
 export function recordAt(calls, octets) {
     const log = {};
     calls.sedge_log_start(log, octets, NONE, 1); // (the mark is that of a loss)
     return log.mark === 1 ? null : log.kept;
 }
 
-// A record, in words.
+// Describes a record in words.
 export function recordWords({ boot, last, begun }) {
     return `boot count ${boot}, last ${last}${begun ? `, command ${last + 1} begun` : ''}`;
 }
 
-// What the board does next, in words.
+// Describes in words what the board does next.
 export function dueWords({ kind, number }) {
     if (kind === 'NOTHING') return 'waits for a command';
     return kind === 'EXECUTE' ? `executes command ${number}` : `writes the ${PLACES[kind]?.[1]} place`;
@@ -54,7 +54,7 @@ export class Run {
         for (; said !== null && this.steps.length < MOST; said = this.step()) this.keep(said);
     }
 
-    // The step after the last one, as a sentence; null at the end.
+    // Takes the next step. Returns a sentence about it, or null at the end.
     step() {
         const change = this.changes.find(({ at, kind }) => kind && at === this.steps.length), { due, heard } = this;
         if (change) return this[change.kind](change);
@@ -62,7 +62,7 @@ export class Run {
         return heard.kind === 'SAYS' && heard.last < COMMANDS ? this.repeat({ number: heard.last + 1 }) : null;
     }
 
-    // What is next is done, whole.
+    // Completes the action that is due.
     do(action) {
         const { kind, octets, number } = action, isWrite = kind in PLACES;
         if (isWrite) this.places[PLACES[kind][0]] = octets;
@@ -72,7 +72,7 @@ export class Run {
         return `The board ${dueWords(action)}${isWrite ? `: ${recordWords(recordAt(this.calls, octets))}` : ''}.`;
     }
 
-    // The packet of a command arrives, for the first time or again.
+    // Makes the packet of a command arrive, for the first time or again.
     repeat({ number }) {
         const isNew = !this.sent.has(number), what = `Command ${number} arrives${isNew ? '' : ' again'}`;
         if (isNew) this.sent.set(number, commandPacket(APID, number, number, Uint8Array.of(0xa0 + number)));
@@ -84,7 +84,7 @@ export class Run {
         return `${what}. It is taken.`;
     }
 
-    // The write that is next is torn after some octets, and the board restarts.
+    // Tears the write that is due after some octets, and restarts the board.
     tear({ octets: count }) {
         const { kind, octets } = this.due, [place, name] = PLACES[kind] ?? [];
         if (name === undefined) return this.restart();
@@ -92,7 +92,7 @@ export class Run {
         return `The write of the ${name} place is torn after ${count} octets: the board restarts. ${this.start()}`;
     }
 
-    // The board restarts in the middle of what is next.
+    // Restarts the board in the middle of the action that is due.
     restart() {
         const { kind, number } = this.due, isRunning = kind === 'EXECUTE', isWrite = kind in PLACES;
         if (isRunning) this.ran = [...this.ran, { number, isWhole: false }];
@@ -101,7 +101,7 @@ export class Run {
         return `The board restarts${what}. ${this.start()}`;
     }
 
-    // The board starts with what both places have; returns what it finds there.
+    // Starts the board with the contents of both places. Returns what it finds there, in words.
     start() {
         this.board = new Executor(...this.places, ++this.starts);
         this.due = null;
@@ -111,7 +111,7 @@ export class Run {
         return `${lost}${begun ? `Command ${last + 1} is begun: it is passed over.` : 'No command is begun.'}`;
     }
 
-    // The state after a step.
+    // Keeps the state after a step.
     keep(said) {
         if (this.due === null || this.due.kind === 'NOTHING') this.due = this.board.next();
         const octets = this.board.status(), status = BoardStatus.decode(octets);
@@ -121,7 +121,7 @@ export class Run {
         this.steps.push({ said, note, places, due, octets, status, heard, ran, history });
     }
 
-    // The history of the packets that were taken by a status, as the ground computes it.
+    // Returns the history of the packets that were taken according to a status, as the ground computes it.
     historyOf({ last, begun }) {
         let it = 0;
         for (let number = 1; number <= last + Number(begun); number++) it = historyAfter(it, this.sent.get(number));

@@ -1,10 +1,10 @@
-// The view of the page by which managed parameters are chosen: sliders for a link, the curves of the formulas, and points
-// that the library's own nodes make (choosing.mjs).
+// The view of the page for choosing managed parameters: sliders for a link, the curves of the formulas, and a point for
+// each run of the library's own nodes (choosing.mjs).
 import { choices, expected, ran, WINDOWS } from './choosing.mjs';
 import { make } from './panels.mjs';
 
 const WIDTH = 560, HEIGHT = 290, LEFT = 46, BELOW = 40, ABOVE = 18, RIGHT = 16, FIRST = 150;
-// Each number of a link: its name, what it is, its unit, the least, the most, the step, and what it begins with.
+// The numbers that describe a link, each with its name, label, unit, minimum, maximum, step and initial value.
 const FIELDS = [
     ['loss', 'Frames lost on the uplink', '%', 0, 30, 0.5, 3], ['down', 'CLCWs lost', '%', 0, 30, 0.5, 0],
     ['trip', 'Round trip, both directions', 's', 0.1, 30, 0.1, 2], ['rate', 'Bit rate of the uplink', 'bit/s', 500, 64000, 500, 4000],
@@ -23,7 +23,7 @@ function shape(name, fields, ...within) {
     return it;
 }
 
-// A plot over the window, with both axes by powers of two.
+// Draws a plot over the window, with both axes logarithmic to base 2.
 function plot(box, title, curve, points, chosen) {
     const most = Math.max(2, ...[...curve, ...points].map(([, y]) => y)), top = Math.max(1, Math.ceil(Math.log2(most)));
     const x = (it) => LEFT + (WIDTH - LEFT - RIGHT) * Math.log2(it) / 7;
@@ -64,7 +64,7 @@ export class Choosing {
         return make('label', '', make('span', '', what), ' ', make('output', ''), ` ${unit}`, input);
     }
 
-    // Sets some numbers; others are those that each begins with.
+    // Sets these numbers, and all others to their initial values.
     set(values) {
         for (const [name, , , , , , usual] of FIELDS) at(`choose-${name}`).value = values[name] ?? usual;
         this.anew();
@@ -75,17 +75,17 @@ export class Choosing {
         else this.tell();
     }
 
-    // What the address says.
+    // Sets the numbers that the address contains.
     beginWith(asked) {
         this.set(Object.fromEntries(asked));
     }
 
-    // The address has the numbers.
+    // Writes the numbers into the address.
     tell() {
         history.replaceState(null, '', `#choose&${FIELDS.map(([name]) => `${name}=${at(`choose-${name}`).value}`).join('&')}`);
     }
 
-    // Shows the formulas, and runs a window after another one.
+    // Shows the formulas, and runs one window after another.
     anew() {
         clearTimeout(this.timer);
         const it = { seed: 1 }, left = [...WINDOWS], points = [];

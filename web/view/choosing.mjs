@@ -1,12 +1,12 @@
-// Choosing the managed parameters (docs/CHOOSING.md): its formulas, and runs of a ground and a spacecraft of the module
-// over a link that loses frames, as bench/choose makes them.
+// Chooses the managed parameters (docs/CHOOSING.md): its formulas, and runs of the module's ground and spacecraft over
+// a link that loses frames, as in bench/choose.
 import { defaults } from '../calls.mjs';
 import { numbers as n } from '../sedgechisel.mjs';
 
 export const WINDOWS = [1, 2, 4, 8, 16, 32, 64, 127];
 const MAP = 4, ALERTS = 0.01, MOST_EVENTS = 400000;
 
-// Numbers from 0 to 1 that a seed makes (mulberry32).
+// Returns a generator of numbers from 0 to 1, determined by a seed (mulberry32).
 function chances(seed) {
     let state = seed;
     return () => {
@@ -17,7 +17,8 @@ function chances(seed) {
     };
 }
 
-// By the formulas: the seconds of a frame, the longest round trip in seconds and in frames, and the parameters.
+// Returns, by the formulas, the duration of a frame in seconds, the longest round trip in seconds and in frames, and
+// the parameters.
 export function choices(it) {
     const frame = 8 * it.octets / it.rate, longest = frame + it.trip + it.clcw, again = it.loss + (1 - it.loss) * it.down;
     const count = Math.ceil(longest / frame);
@@ -25,13 +26,13 @@ export function choices(it) {
     return { frame, longest, count, window: Math.min(count, 127), timer: Math.floor(longest / it.tick) + 2, limit };
 }
 
-// By the formulas: the frames for each packet, and its time in multiples of a frame's time.
+// Returns, by the formulas, the frames for each packet, and the time for each packet in frame durations.
 export function expected({ loss }, window, count) {
     const carried = 1 + Math.min(window, count) * loss / (1 - loss);
     return { carried, time: carried * Math.max(1, count / window) };
 }
 
-// One run: events in the order of their times, of which the last one comes first.
+// One run. Its events are in order of time, with the next one last.
 class Run {
     constructor(calls, it, { frame, window, timer, limit }) {
         Object.assign(this, { calls, it, frame, ground: {}, board: {}, chance: chances(it.seed), events: [] });
@@ -56,7 +57,7 @@ class Run {
         return it;
     }
 
-    // After an alert nothing is sent until a report comes that was made since.
+    // After an alert, sends nothing until a CLCW arrives that was made since.
     alert(number) {
         if (number === 0) return;
         this.alerts++;
@@ -101,7 +102,7 @@ class Run {
         this.quiet = undefined;
     }
 
-    // The next event happens.
+    // Makes the next event happen.
     act() {
         const { time, kind, what } = this.events.pop();
         this.now = time;
@@ -116,7 +117,7 @@ class Run {
         while (this.calls.sedge_spacecraft_take(this.board, {}, this.out, this.count) === 0 && this.count.value > 0) this.taken++;
     }
 
-    // Seconds, frames and alerts, once all packets are acknowledged; null where that does not come.
+    // Returns seconds, frames and alerts once all packets are acknowledged, or null if that never happens.
     result() {
         this.calls.sedge_ground_directive(this.ground, n.SEDGE_INIT_UNLOCK, 0);
         this.later(0, 'clcw');

@@ -1,6 +1,6 @@
-// Presses the buttons and the keys of the page, as a person does who plays examples/one_packet.script by them. For this
-// web/check puts it into a copy of the page, whose answers are then those of that script. Where another number of lines
-// is played than is wanted, it leaves nothing of the page.
+// Presses the buttons and keys of the page, as a person does to play examples/one_packet.script. web/check adds it to a
+// copy of the page, whose answers are then those of that script. If the number of played lines is wrong, it replaces
+// the page with an error message.
 const at = (name) => document.getElementById(name);
 const LINES = ['init none', 'submit MAP OCTETS', 'send', 'up deliver', 'take', 'report', 'down deliver', 'show'];
 

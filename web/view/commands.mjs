@@ -1,5 +1,5 @@
-// The view of the page on commands that are executed once, over restarts (board.mjs): the steps of a run, at which the
-// board can be restarted and a write torn, the two places of the record, and what the status states.
+// The view of the page for commands that are executed once, over restarts (board.mjs). It shows the steps of a run, the
+// two places of the record and what the status states; at each step the board can be restarted or a write torn.
 import { digitsOf } from '../link.mjs';
 import { COMMANDS, GUIDE, Run, dueWords, recordAt, recordWords } from './board.mjs';
 import { make, pairs } from './panels.mjs';
@@ -12,16 +12,16 @@ const KINDS = {
 const at = (name) => document.getElementById(name);
 const numbers = (holds) => Array.from({ length: COMMANDS }, (_, k) => k + 1).filter(holds).join(', ') || 'none';
 
-// Whether a status marks a command as known to have been executed.
+// Returns whether a status marks a command as known to have been executed.
 const isKnown = ({ last, known }, number) => number <= last && (known >> BigInt(last - number) & 1n) === 1n;
 
-// What a status states of a command.
+// Returns what a status states about a command.
 function fate(heard, number) {
     if (number > heard.last) return heard.begun && number === heard.last + 1 ? 'begun' : 'not taken';
     return isKnown(heard, number) ? 'executed' : 'nothing is known';
 }
 
-// What became of a command on board, which only this page sees.
+// Returns what happened to a command on board, which only this page sees.
 function happened(ran, number) {
     const own = ran.filter((it) => it.number === number);
     if (own.length > 1) return 'executed twice';
@@ -37,7 +37,7 @@ export class Commands {
         });
     }
 
-    // What the buttons do.
+    // Returns what each button does.
     acts() {
         return {
             'run-first': () => this.goTo(0), 'run-back': () => this.goTo(this.at - 1),
@@ -52,12 +52,13 @@ export class Commands {
         else this.tell();
     }
 
-    // What the address says.
+    // Begins at the step that the address names.
     beginWith(words) {
         this.take(GUIDE, Number(words.get('step')) - 1);
     }
 
-    // The address has the step of the guided run, a little later, since browsers bound how often it changes.
+    // Writes the step of the guided run into the address. Waits a little, because browsers limit how often it may
+    // change.
     tell() {
         clearTimeout(this.telling);
         this.telling = setTimeout(() => {
@@ -66,7 +67,7 @@ export class Commands {
         }, 300);
     }
 
-    // Another run, which follows from these changes.
+    // Takes another run, determined by these changes.
     take(changes, step) {
         Object.assign(this, { changes, run: new Run(this.calls, changes) });
         at('steps').replaceChildren(...this.run.steps.map(({ said }) => make('li', '', said)));
@@ -74,7 +75,7 @@ export class Commands {
         this.goTo(step);
     }
 
-    // The step after this one becomes a restart or a torn write; what follows is then not guided.
+    // Makes the step after this one a restart or a torn write. The run is then no longer the guided one.
     change(kind) {
         const next = this.at + 1, octets = Math.min(50, Math.max(0, Math.floor(Number(at('torn').value)) || 0));
         this.take([...this.changes.filter((it) => it.at < next), { at: next, kind, octets }], next);
@@ -108,7 +109,8 @@ export class Commands {
         this.tell();
     }
 
-    // The rows of a place: the octets of both copies by fields, marked if this step changed them; and what they are.
+    // Returns the rows of a place: the fields of both copies, marked if this step changed them, and what the place
+    // contains.
     place(name, octets, before) {
         const cell = (from, to) => {
             const part = octets.subarray(from, to), isSame = part.every((it, k) => it === before[from + k]);

@@ -1,7 +1,6 @@
-// Drops a large capture on the page, and presses the buttons of the captures, as a person does. For this web/check puts
-// it into a copy of the page, with the octets of one capture as DROPPED and how often they stand in the large one as
-// TIMES. At last the page shows the lines from 2,001 on. Where something is not as it should be, it leaves nothing of
-// the page.
+// Drops a large capture on the page, and presses the buttons of the captures, as a person does. web/check adds it to a
+// copy of the page. DROPPED contains the octets of a capture, and TIMES is how often the large capture repeats them. At
+// the end the page shows the lines from 2,001 on. If anything is wrong, it replaces the page with an error message.
 const at = (name) => document.getElementById(name);
 const octets = Uint8Array.from(DROPPED.match(/../g), (it) => parseInt(it, 16));
 

@@ -1,4 +1,4 @@
-// What the ladder says of a row and of an arrow while it is pointed at: octets, fields, and the rules that were taken.
+// The tooltips of a row and of an arrow of the ladder: octets, fields, and the rules that were applied.
 import { numbers as n } from '../sedgechisel.mjs';
 import { digitsOf } from '../link.mjs';
 import { frameName, frameWords, reportName, reportWords, valueWords } from './words.mjs';
@@ -8,7 +8,8 @@ const LONGEST = 240, FARTHEST = 1000; // letters of a hint, and steps back to wh
 
 const cut = (text) => (text.length > LONGEST ? `${text.slice(0, LONGEST)}..` : text);
 
-// The last step, from one back, for which something holds, while something else does; -1 if there is none.
+// Returns the last step, at or before `from`, for which `holds` is true, if `lasts` is true from there on; otherwise
+// -1.
 function lastOf(steps, from, holds, lasts) {
     for (let k = from; k >= Math.max(0, from - FARTHEST) && lasts(steps[k]); k--) if (holds(steps[k])) return k;
     return -1;
@@ -17,8 +18,8 @@ function lastOf(steps, from, holds, lasts) {
 const isLost = ({ reply: { kind, up } }) => kind === n.SEDGE_REPLY_LOST || up?.kind === n.SEDGE_RECEIVED_INVALID;
 const isAd = ({ gone }, number) => gone?.frame?.kind === n.SEDGE_TC_AD && gone.frame.n === number;
 
-// What led to a step by which frames are sent again, as far as it is known: the frame that was lost, and the one that
-// arrived ahead, or found no buffer, so that the CLCW had the retransmit flag.
+// Returns, as far as known, what led to a step that causes a retransmission: the frame that was lost, and the frame
+// that arrived ahead or found no free buffer and thus set the retransmit flag of the CLCW.
 function rootWords({ steps, lines }, again) {
     const { gone, before } = steps[again], line = (k) => `line ${lines[k] + 1}`;
     const isSet = ({ before: { farm: was }, after: { farm: is } }) => is.retransmit && !was.retransmit;
@@ -32,7 +33,7 @@ function rootWords({ steps, lines }, again) {
     return words.filter(Boolean);
 }
 
-// Why a frame is sent again, in words; none where it is sent for the first time.
+// Returns in words why a frame is sent again, or nothing for a frame that is sent for the first time.
 export function againWords(player, { again } = {}) {
     if (again === undefined) return [];
     const { gone } = player.steps[again], word = gone && valueWords(gone.word);
@@ -89,7 +90,7 @@ export function courseWords({ steps }) {
     return words.length > 0 ? words.join('; ') : 'sender stays in S1';
 }
 
-// The events of both machines, each with its rule or its row, and what their states become.
+// Describes the events of both machines, each with its rule or row, and their changes of state.
 function rules(step, made) {
     const { before, rows: { fop, farm } } = step, said = Object.values(turnsOf(step)).filter((it) => it !== '');
     const rule = made.rules[fop?.part]?.[fop.rule - 1], cell = made.cells[farm?.event]?.[before.farm.state];

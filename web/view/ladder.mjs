@@ -1,6 +1,6 @@
-// The ladder of what was played: the ground at the left, the spacecraft at the right, a row for each line, an arrow for
-// each frame, a cross where one is lost, and the beginning of one that is in transit. Both ends have the colour of their
-// machine's state. Only the rows that are seen are drawn, and some around them.
+// The ladder of the session: the ground on the left, the spacecraft on the right, a row for each line, an arrow for
+// each frame, a cross on a lost one, and only the beginning of the arrow for one in transit. Each end has the colour of
+// its machine's state. Only the visible rows, and some around them, are drawn.
 import { onBoard } from '../calls.mjs';
 import { numbers as n } from '../sedgechisel.mjs';
 import { arrowHint, rowHint, turnsOf } from './hints.mjs';
@@ -19,7 +19,7 @@ function cut(text, most) {
     return text.length > most ? `${text.slice(0, most - 2)}..` : text;
 }
 
-// Words in one line, or in two where they are too long: a line of the script and its answer, or either alone.
+// Fits words into one line, or two if they are too long: a line of the script and its answer, or one of these.
 function fit(parts, most) {
     const whole = parts.join(': '), left = most - 2 - (parts[1]?.length ?? 0), at = whole.lastIndexOf(' ', most);
     if (whole.length <= most) return [whole];
@@ -28,7 +28,7 @@ function fit(parts, most) {
     return at <= 0 ? [cut(whole, most)] : [whole.slice(0, at), cut(whole.slice(at + 1), most)];
 }
 
-// Words at x, in one or two lines.
+// Returns words at x, in one or two lines.
 function text(x, y, lines, anchor = 'middle', kind = '') {
     const spans = lines.map((line, k) => shape('tspan', { x, dy: k === 0 ? 0 : '1.05em' }, line));
     return shape('text', { x, y: y - 6 * (lines.length - 1), 'text-anchor': anchor, class: kind }, ...spans);
@@ -42,7 +42,7 @@ export class Ladder {
         box.addEventListener('scroll', () => this.player && this.draw());
     }
 
-    // As wide as its box: where its ends are, and how many letters fit beside them.
+    // Takes the width of the box. Computes where the ends are, and how many letters fit next to them.
     measure() {
         const from = this.box.clientWidth, width = Math.max(300, Math.min(from, 900));
         const size = Math.max(10, Math.min(width / 45, 13)), side = Math.min(300, width * 0.34);
@@ -53,8 +53,8 @@ export class Ladder {
         return TOP + ROW * Math.max(count, 6) + 8;
     }
 
-    // Shows what is played of a player, then the rows that were played before, so that a row is in sight: that of the
-    // last line, unless another one is named. It scrolls no further than that needs, from where it is.
+    // Shows the lines that a player has played, followed by the rows that were played before. Scrolls from `from`, no
+    // further than needed, so that a row is visible: that of the last line, unless another is given.
     show(player, row = player.at - 1, from = this.box.scrollTop) {
         if (this.from !== this.box.clientWidth) this.measure();
         Object.assign(this, { player, count: player.at, end: player.steps.length, drawn: undefined });
@@ -64,7 +64,7 @@ export class Ladder {
         this.draw();
     }
 
-    // Draws the rows that are seen.
+    // Draws the visible rows.
     draw() {
         const rowAt = (y) => Math.min(this.end, Math.max(0, Math.round((y - TOP) / ROW)));
         const { scrollTop, clientHeight } = this.box, from = rowAt(scrollTop), to = rowAt(scrollTop + clientHeight) + 1;
@@ -74,7 +74,7 @@ export class Ladder {
         this.canvas.replaceChildren(this.svg);
     }
 
-    // A drawing of its own of all rows that are played, or of the last ones where they are too many.
+    // Returns a separate drawing of all rows played, or of the last ones if there are too many.
     whole() {
         const { end, count } = this;
         this.end = count;
@@ -83,7 +83,7 @@ export class Ladder {
         return svg;
     }
 
-    // Draws them to be printed, until `show` draws those that are seen.
+    // Draws these rows for printing, until `show` draws the visible ones again.
     drawWhole() {
         const svg = this.whole();
         svg.style.top = 0;
@@ -112,7 +112,7 @@ export class Ladder {
         return svg;
     }
 
-    // Rows after the last line were played before: they stay, and their arrows.
+    // Returns whether a row comes after the last line. Such rows were played before; they stay, with their arrows.
     isLater(k) {
         return k >= this.count;
     }
@@ -121,7 +121,7 @@ export class Ladder {
         return sent.left !== undefined && (this.isLater(k) || !this.isLater(sent.left));
     }
 
-    // The arrows that begin before a row and end after it.
+    // Returns the arrows that begin before a row and end after it.
     across(to) {
         if (to === this.end || to === 0) return [];
         const { up, down } = this.player.inTransit(this.player.steps[to - 1]);
@@ -145,15 +145,15 @@ export class Ladder {
         return group;
     }
 
-    // What is under a row: a place to click.
+    // Returns the clickable area under a row.
     place(step, k) {
         const place = { class: 'place', x: 0, y: TOP + ROW * (k - 0.5), width: this.width, height: ROW };
         const hint = shape('title', {}, rowHint(this.player, step, this.made));
         return shape('g', { 'data-step': k }, shape('rect', place, hint));
     }
 
-    // A part of each end in the colour of its machine's state, with how much of the window, of the timer and of the
-    // board's buffer is used.
+    // Draws the part of each end next to a row, in the colour of its machine's state, and how much of the window, of
+    // the timer and of the board's buffer is used.
     bars(step, k) {
         const { fop, farm } = step.after, y = TOP + ROW * k, width = this.isLater(k) ? 4 : 8;
         const end = (x, state) => shape('rect', { class: `band ${state}`, x: x - width / 2, y, width, height: ROW });
@@ -165,25 +165,25 @@ export class Ladder {
             part(this.craft + 5, 'buffer', farm.ready, slots, 19));
     }
 
-    // The states of both machines where they become others.
+    // Draws the changes of state of both machines.
     turns(step, y) {
         const { fop, farm } = turnsOf(step), { after } = step;
         return [fop && text(this.ground + 28, y + 14, [fop], 'start', `turn fop${after.fop.state}`),
             farm && text(this.craft - 9, y + 14, [farm], 'end', `turn farm${after.farm.state}`)].filter(Boolean);
     }
 
-    // How many letters fit into a width.
+    // Returns how many letters fit into a width.
     most(width) {
         return Math.floor((width - 12) / this.letter);
     }
 
-    // Where a frame begins and ends, and what it is.
+    // Returns where a frame begins and ends, and its label.
     way({ word, frame }) {
         if (word === undefined) return { isUp: true, start: this.ground, end: this.craft, label: frameName(frame) };
         return { isUp: false, start: this.craft, end: this.ground, label: reportName(word) };
     }
 
-    // The beginning of an arrow, for a frame that is in transit.
+    // Draws the beginning of an arrow, for a frame in transit.
     stub(sent, y, k) {
         const { isUp, start, end, label } = this.way(sent), x = start + (end - start) * 0.2;
         const name = text(x + (isUp ? 8 : -8), y + 10, [label], isUp ? 'start' : 'end');
@@ -207,7 +207,7 @@ export class Ladder {
             shape('line', { class: kind, ...line, 'marker-end': `url(#${kind}-tip)` }), text(x, at - 4, words)];
     }
 
-    // What is said beside the ends: of a line of the script and its answer.
+    // Returns the words next to the ends: a line of the script, its answer, or both.
     told({ line, answer, event, reply, sent, gone }, y) {
         const [word] = line.split(' '), isLost = reply.kind === n.SEDGE_REPLY_LOST;
         if (event.kind === 0) {

@@ -1,11 +1,11 @@
-// The lines of a script with their answers, of which those are drawn that are seen, and some around them. How many rows
-// each takes is known before it is drawn: letters are equally wide, and lines are broken here.
+// The lines of a script with their answers. Only the visible lines, and some around them, are drawn. The number of rows
+// of each line is known before it is drawn, because letters have equal width and lines are broken here.
 import { make } from './panels.mjs';
 import { countOf, placeOf } from './script.mjs';
 
 const ROW = 17, AROUND = 2600, INDENT = 58, LONGEST = 2000, MOST_PRINTED = 2000;
 
-// A text in parts that are no longer than the most, each with what breaks it from the next: a space goes for a `br`.
+// Breaks a text into parts of at most `most` letters, each with the element that ends it: `br` replaces a space.
 export function broken(text, most) {
     const parts = [];
     let rest = text.length > LONGEST ? `${text.slice(0, LONGEST)}..` : text;
@@ -25,7 +25,7 @@ export class List {
         box.addEventListener('scroll', () => this.draw());
     }
 
-    // How many letters fit into a row.
+    // Computes how many letters fit into a row.
     measure() {
         const probe = make('span', 'probe', '0'.repeat(100));
         this.list.append(probe);
@@ -39,7 +39,7 @@ export class List {
         return text.length <= this.most ? 1 : broken(text, this.most).length;
     }
 
-    // Shows the lines as they are played up to a number of them.
+    // Shows the lines, with the answers to those that have been played.
     show({ rows, lines, steps, at }) {
         if (this.from !== this.box.clientWidth) this.measure();
         const count = countOf(rows), tops = new Float64Array(count + 1);
@@ -54,7 +54,7 @@ export class List {
         this.draw();
     }
 
-    // Draws the lines that are seen.
+    // Draws the visible lines.
     draw() {
         const { scrollTop, clientHeight } = this.box, { drawn, tops, count } = this;
         const from = Math.max(0, placeOf(tops, scrollTop + 1) - 1), to = Math.min(count, placeOf(tops, scrollTop + clientHeight));
@@ -64,7 +64,7 @@ export class List {
         this.list.replaceChildren(...Array.from({ length: this.drawn[1] - first }, (_, k) => this.line(first + k)));
     }
 
-    // Draws all lines to be printed, or those around the last one where they are too many, until `show` draws again.
+    // Draws all lines for printing, or keeps those around the last one if there are too many, until `show` draws again.
     drawWhole() {
         if (this.count > MOST_PRINTED) return;
         this.drawn = [0, this.count];

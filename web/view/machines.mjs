@@ -1,22 +1,22 @@
-// Both machines beside the link, by the calls of the library without heap. They are given what the link replies, so
-// each event has its row: its number in the tables of CCSDS 232.1-B-2, and the rule of docs/PROFILE.md.
+// Both machines, run next to the link by the calls of the core. They receive the link's replies, so each event has its
+// row: its number in the tables of CCSDS 232.1-B-2, and the rule of docs/PROFILE.md.
 import { numbers as n } from '../sedgechisel.mjs';
 
 export const FLAGS = { lockout: n.SEDGE_CLCW_LOCKOUT, wait: n.SEDGE_CLCW_WAIT, retransmit: n.SEDGE_CLCW_RETRANSMIT };
-// The rule of a report by its event: in S1 to S3, and in S4.
+// The rule of a CLCW for each event, in S1 to S3, and in S4.
 const RULES = {
     E1: 5, E2: 6, E3: 3, E4: 4, E5: 5, E6: 6, E7: 3, E101: 7, E102: 8, E8: 7, E9: 7, E10: 8, E11: 8, E12: 8, E103: 8,
     E13: 2, E14: 1,
 };
 const RULES_IN_S4 = { E14: 9, E13: 10, E4: 11, E3: 12, E1: 13 };
-// The event of each directive; its rule is its number.
+// The event of each directive. The number of the directive is that of its rule.
 const DIRECTIVES = ['', 'E23', 'E24', 'E25', 'E27', 'E29', 'E35', 'E36', 'E38', 'E37'];
 
 export function flagsOf(word) {
     return Object.keys(FLAGS).filter((name) => word.flags & FLAGS[name]);
 }
 
-// The event of a report (table 5-1), by the sender's numbers and the control word.
+// Returns the event of a CLCW (table 5-1), given the sender's numbers.
 function reportEvent({ nn, vs, limit, count }, { flags, value }) {
     const [lockout, wait, retransmit] = Object.values(FLAGS).map((flag) => (flags & flag) !== 0);
     const above = (value - nn) & 255, sent = (vs - nn) & 255;
@@ -35,14 +35,14 @@ function reportRule(state, event) {
     return state === n.SEDGE_FOP_S4 ? RULES_IN_S4[event] : RULES[event];
 }
 
-// The timer's end, where this tick is one.
+// Returns the row of a tick at which the timer runs out, if this is one.
 function tickRow({ state, ticks, count, limit }) {
     if (ticks !== 1) return undefined;
     const below = { [n.SEDGE_FOP_S3]: 2, [n.SEDGE_FOP_S4]: 4, [n.SEDGE_FOP_S5]: 3 };
     return { event: count < limit ? 'E16' : 'E17', part: 'a tick', rule: count < limit ? below[state] ?? 1 : 4 };
 }
 
-// The event of a frame of Type-AD (table 6-1).
+// Returns the event of a Type-AD frame (table 6-1).
 function frameEvent({ width, vr }, number, isFree) {
     const above = (number - vr) & 255;
     if (above === 0) return isFree ? 'E1' : 'E2';
@@ -56,21 +56,21 @@ export class Machines {
         calls.sedge_farm_open(this.farm, config.width, 0);
     }
 
-    // What both are like now.
+    // Returns the present variables of both machines.
     now() {
         const { calls, fop, farm, ready, bypass, outstanding, alert } = this;
         const pending = outstanding - fop.sent - fop.waiting, state = calls.sedge_farm_state(farm);
         return { fop: { ...fop, outstanding, bypass, pending, alert }, farm: { ...farm, ready, state } };
     }
 
-    // Is as it was when it was like this.
+    // Restores variables that `now` returned.
     restore({ fop, farm }) {
         const { ready, bypass, outstanding, alert } = { ...farm, ...fop };
         Object.assign(this, { fop: { ...fop }, farm: { ...farm }, ready, bypass, outstanding, alert });
     }
 
-    // An event has happened: `sent` is the frame that it sent, `word` the control word of the frame that came down.
-    // Hands out the rows that were taken, of the sender (fop) and of the receiver (farm).
+    // Takes an event: `sent` is the frame that it sent, `word` the CLCW of the frame that came down. Returns the rows
+    // that were taken, of the sender (fop) and of the receiver (farm).
     step(event, reply, sent, word, outstanding) {
         const { fop, calls } = this, rows = reply.kind === undefined ? {} : this.act(event, reply, sent, word);
         if (fop.state !== n.SEDGE_FOP_S6 && fop.waiting === 0 && outstanding > fop.sent) calls.sedge_fop_submit(fop);
@@ -101,7 +101,7 @@ export class Machines {
         }
     }
 
-    // An Error says so where a machine and the link differ.
+    // Throws an Error if a machine and the link differ.
     same(one, other, what) {
         if (one !== other) throw new Error(`the page is wrong: ${what} is ${one} beside the link, and ${other} of it`);
     }
@@ -118,14 +118,14 @@ export class Machines {
         return { event: DIRECTIVES[directive], ...fault === 0 ? { part: 'the directives', rule: directive } : {} };
     }
 
-    // V(S) is set to the value, and a session begins by Unlock.
+    // Sets V(S) to the value, and begins a session by Unlock.
     resume({ value }, reply) {
         if (reply.kind !== n.SEDGE_REPLY_RESUMED) return undefined;
         this.direct({ directive: n.SEDGE_SET_VS, value }, reply);
         return this.direct({ directive: n.SEDGE_INIT_UNLOCK }, reply);
     }
 
-    // Takes what goes next; the rule of a pull by which it does.
+    // Takes what is sent next. Returns the number of the rule of a pull that applied.
     pull(sent) {
         if (sent?.kind === n.SEDGE_TC_BD) {
             this.bypass -= 1;

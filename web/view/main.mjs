@@ -1,7 +1,7 @@
 // The page: scripts of the simulated link (page.mjs), commands that are executed once (commands.mjs), captures
-// (captures.mjs), and the choosing of managed parameters (choose.mjs). The address says what to begin with:
-// #example=NAME, #script=TEXT or #packed=LETTERS, then &line=N or &play; and octets to read, &octets=HEX&kind=KIND.
-// Commands begin with #commands, captures with #capture, and choosing with #choose.
+// (captures.mjs), and the choice of managed parameters (choose.mjs). The address selects what to begin with:
+// #example=NAME, #script=TEXT or #packed=LETTERS, then &line=N or &play; and octets to decode, &octets=HEX&kind=KIND.
+// #commands selects commands, #capture captures, and #choose the choice of parameters.
 import { load } from '../sedgechisel.mjs';
 import { Captures } from './captures.mjs';
 import { Choosing } from './choose.mjs';
@@ -28,7 +28,7 @@ function turnTo(name) {
     }
 }
 
-// The script that the address has: as it is, compressed, or an example; at first one that is played.
+// Begins with the script in the address (plain, compressed, or an example), or with the first example.
 async function beginScript(page, words, count) {
     const [first] = Object.keys(page.made.examples);
     const isOwn = words.has('script') || words.has('packed');
@@ -46,7 +46,7 @@ async function beginScript(page, words, count) {
     page.decode();
 }
 
-// Shows what the address says.
+// Shows what the address selects.
 async function begin({ page, commands, captures, choosing }, hash) {
     page.keepAddress();
     const words = askedBy(hash), view = ['commands', 'capture', 'choose'].find((it) => words.has(it));
@@ -59,7 +59,7 @@ async function begin({ page, commands, captures, choosing }, hash) {
 
 const isField = ({ tagName }) => /^(INPUT|TEXTAREA|SELECT)$/.test(tagName);
 
-// Binds buttons of a view, and keys where no field has the focus.
+// Binds the buttons of a view, and its keys, which act unless a field has the focus.
 function bindActs(view, acts, keys) {
     const does = (name) => at(name).getAttribute('aria-disabled') !== 'true' && acts[name]();
     for (const name of Object.keys(acts)) at(name).addEventListener('click', () => does(name));
@@ -165,7 +165,7 @@ function bindViews(views) {
     bindFiles(page, captures);
 }
 
-// Adds to the names of the examples what both machines do there; each is played for this.
+// Adds to the names of the examples what both machines do in them. It plays each example for this.
 async function describe(calls, examples) {
     for (const it of [...at('example').options].filter(({ value }) => value in examples)) {
         await new Promise((end) => { setTimeout(end); });

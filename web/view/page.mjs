@@ -1,4 +1,4 @@
-// The scripts: a script is played line by line, and what is shown is that of the line played last.
+// The scripts: the page plays a script line by line, and shows the state after the line played last.
 import { eventOf, octetsOf } from '../link.mjs';
 import { Ladder } from './ladder.mjs';
 import { List } from './list.mjs';
@@ -29,7 +29,7 @@ export class Page {
         Object.assign(this, { ladder: new Ladder(at('ladder'), calls, made), list: new List(at('list'), at('lines')) });
     }
 
-    // Does something, and says what is wrong with it, if anything is.
+    // Performs an act, and shows the error, if there is one.
     attempt(act) {
         try {
             act();
@@ -45,8 +45,8 @@ export class Page {
         at('fault').hidden = words === undefined;
     }
 
-    // Takes a script, and plays a number of its lines; whether it can be read. Where it cannot, this is said until it
-    // can be, and what is shown stays that of the script before.
+    // Takes a script, and plays a number of its lines. Returns whether the script can be read. If not, the page reports
+    // this until it can, and still shows the previous script.
     open(text, count) {
         this.pause();
         this.text = text;
@@ -74,7 +74,7 @@ export class Page {
         this.broken = `${what}${cause && `: ${cause}`}${isBefore ? '. What is shown is the script before.' : ''}`;
     }
 
-    // The cause for which a script is unreadable, as the command has it.
+    // Returns why a script is unreadable, in the words of the command.
     async cause(text) {
         const asked = { words: ['sim', 'script'], file: new File([text], 'script') };
         const { said } = await this.runner.run(asked, () => {});
@@ -88,7 +88,7 @@ export class Page {
         this.complain(this.broken);
     }
 
-    // Takes a text for another one, which *Undo* brings back.
+    // Replaces the script with another one; *Undo* restores it.
     replace(text, name, count) {
         if (this.text !== '' && this.text !== text) {
             this.undone.push({ text: this.text, name: at('example').value, count: this.player.at });
@@ -107,27 +107,27 @@ export class Page {
         this.replace(before.text, before.name, before.count);
     }
 
-    // The text is in its field, unless it is too long for a field.
+    // Writes the text into its field, unless it is too long for a field.
     write() {
         const isLong = this.text.length > LONGEST_EDITED;
         at('text').disabled = isLong;
         at('text').value = isLong ? 'This script is too long to be edited here: save it, edit it, and drop the file here.' : this.text;
     }
 
-    // Takes an example; under no name, the script as it is, whose field is shown.
+    // Takes an example. Without a name, keeps the script as it is, and shows its field.
     choose(name, count) {
         const example = this.made.examples[name];
         at('own').open = example === undefined;
         this.replace(example ?? this.text, example === undefined ? '' : name, count);
     }
 
-    // The script has been typed.
+    // Takes the script that was typed.
     edit() {
         at('example').value = '';
         this.open(at('text').value, this.player.at);
     }
 
-    // Plays up to a number of lines, and shows them. Where they are many, the page can be used meanwhile.
+    // Plays up to a number of lines, and shows them. The page can be used while it plays many lines.
     goTo(count) {
         clearTimeout(this.turn);
         const { player } = this, begun = performance.now();
@@ -178,7 +178,7 @@ export class Page {
         at('line').value = count > 0 ? line : 1;
     }
 
-    // Says something before the words on a line, while the script and the number of lines played are these.
+    // Shows a remark before the words about a line, until the script or the number of lines played changes.
     remark(words, count = this.player.at) {
         this.said = { script: this.player.script, at: count, words };
         if (count === this.player.at) this.tell(count, this.player.last);
@@ -202,7 +202,7 @@ export class Page {
         at('play').setAttribute('aria-pressed', false);
     }
 
-    // Puts a line after the one that was played last, or before the first one, and plays it.
+    // Inserts a line after the one played last, or before the first one, and plays it.
     insert(template) {
         if (this.broken !== undefined) return;
         const fields = { MAP: at('map').value, OCTETS: at('octets').value.trim() || '-', X: at('number').value };
@@ -213,27 +213,27 @@ export class Page {
         else if (this.replace(`${rows.join('\n')}\n`, '', count + 1)) this.advise(line);
     }
 
-    // What to do after the line of a button was refused; after a submission, the next packet.
+    // Shows what to do if the line of a button was refused; after a submission, takes the next packet.
     advise(line) {
         const [, fault] = this.player.last.answer.match(/^refused \d+ (\w+)/) ?? [], advice = ADVICE[fault];
         if (advice) this.remark(`Refused: ${advice.replace('WAY', line.split(' ')[0])}.`);
         if (/^(submit|bypass)/.test(line)) this.nextPacket();
     }
 
-    // A line that is not put into the script, since it is unreadable.
+    // Reports a line that is not inserted into the script because it is unreadable.
     async refuse(line) {
         const what = `This line is unreadable: ${cut(line, 30)}`, cause = await this.cause(line);
         this.complain(`${what}${cause && `: ${cause}`}`);
     }
 
-    // The frame of a step meets the other end, and the rest is planned again; its row stays in sight.
+    // Reverses the fate of the frame of a step, and plans the rest again. Its row stays visible.
     swap(k) {
         if (this.broken !== undefined) return;
         const { gone, line } = this.player.steps[k] ?? {};
         if (gone) this.plan(swapped(this.player, k), k, gone, line.endsWith('lose') ? 'delivered' : 'lost');
     }
 
-    // The frame in transit that a step sent is lost.
+    // Loses the frame in transit that a step sent.
     lose(k) {
         const { player } = this;
         if (this.broken !== undefined) return;
@@ -241,7 +241,7 @@ export class Page {
         this.plan(lostInTransit(player, k), k, player.steps[k].sent, 'lost');
     }
 
-    // Takes a script in which a frame met another end by hand, and says what followed.
+    // Takes a script in which the fate of a frame was changed by hand, and reports what followed.
     plan(text, row, { word, frame }, end) {
         const { player } = this, { length } = player.events, name = word ? reportName(word) : frameName(frame);
         const { scrollTop } = at('ladder');
@@ -257,7 +257,7 @@ export class Page {
         this.remark(`${name} ${end} by hand${words.length > 0 ? `: ${words.join('; ')}` : ''}.`, player.events.length);
     }
 
-    // A click on an arrow, on one in transit, or on a row of the ladder.
+    // Handles a click on an arrow, on a frame in transit, or on a row of the ladder.
     click(target) {
         const frame = target.closest('[data-gone]'), sent = target.closest('[data-sent]'), row = target.closest('[data-step]');
         if (frame) this.swap(Number(frame.dataset.gone));
@@ -265,7 +265,7 @@ export class Page {
         else if (row) this.move(Number(row.dataset.step) + 1);
     }
 
-    // The address of what is shown; null where the script is too long for one.
+    // Returns the address of what is shown, or null if the script is too long for one.
     async address() {
         const { player } = this, name = at('example').value, line = player.at > 0 ? `&line=${player.lines[player.at - 1] + 1}` : '';
         if (this.part?.text !== player.text) this.part = { text: player.text, is: name === '' && scriptPart(player.text) };
@@ -275,7 +275,7 @@ export class Page {
         return part === null ? null : `#${part}${line}${row}`;
     }
 
-    // Shows the ladder at a line that was changed by hand, as the address has it.
+    // Shows the ladder at a line that was changed by hand, as the address names it.
     showChange(line) {
         const { player } = this, row = Math.min(placeOf(player.lines, line - 1), player.at - 1);
         if (this.broken !== undefined || !(row >= 0)) return;
@@ -283,7 +283,7 @@ export class Page {
         this.ladder.show(player, row);
     }
 
-    // The address bar has it, a little later, since browsers bound how often it changes.
+    // Updates the address bar. Waits a little, because browsers limit how often it may change.
     tellAddress() {
         clearTimeout(this.telling);
         const telling = this.telling = setTimeout(async () => {
@@ -293,7 +293,7 @@ export class Page {
         }, 300);
     }
 
-    // What the address says is taken now, and it does not change before.
+    // Cancels a pending update of the address, whose contents are used now.
     keepAddress() {
         clearTimeout(this.telling);
         this.telling = undefined;
@@ -329,7 +329,7 @@ export class Page {
         else save(name, 'image/png', await pngOf(text, ...size));
     }
 
-    // The packet in the field gets the next count.
+    // Increases the count of the packet in the field.
     nextPacket() {
         const next = (_, head, count) => head + (0xc000 | parseInt(count, 16) + 1 & 0x3fff).toString(16).toUpperCase();
         at('octets').value = at('octets').value.replace(/^([0-9A-F]{4})([CDEF][0-9A-F]{3})/i, next);
@@ -341,12 +341,12 @@ export class Page {
         at('decoded').replaceChildren(digits === '' ? '' : octets ? decoded(read(this.calls, octets)) : wrong);
     }
 
-    // Draws again where there is another width.
+    // Draws again if the width has changed.
     resized() {
         if (at('ladder').clientWidth !== this.ladder.from) this.draws((it) => it.show(this.player));
     }
 
-    // Does something to both drawings, if they are seen.
+    // Does something to both drawings, if they are visible.
     draws(act) {
         if (!at('scripts').hidden && this.player.script !== undefined) [this.list, this.ladder].forEach(act);
     }

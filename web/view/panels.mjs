@@ -1,5 +1,5 @@
-// What stands beside the ladder: both machines, the rows of their tables, what is on its way, what is promised, and
-// octets that are read.
+// The panels next to the ladder: both machines, the rows of their tables, what is in transit, what is promised, and
+// decoded octets.
 import { numbers as n } from '../sedgechisel.mjs';
 import { causeWords, placesOf } from './hints.mjs';
 import { frameName, frameWords, reportName, reportWords } from './words.mjs';
@@ -10,7 +10,7 @@ const FOP_STATES = [
 ];
 const MOST = 50, MOST_PLACES = 7; // frames that are listed each way, and places of a run
 const FARM_STATES = ['Open', 'Wait', 'Lockout'];
-// The variables of both machines: a name, and what it is.
+// The variables of both machines: a name, and how to read the value.
 const FOP = [
     ['V(S)', (it) => it.vs], ['NN(R)', (it) => it.nn], ['outstanding', (it) => it.outstanding],
     ['sent queue', (it) => it.sent], ['to be sent again', (it) => it.due], ['wait queue', (it) => it.waiting],
@@ -25,7 +25,7 @@ const FARM = [
     ['retransmit', (it) => it.retransmit], ['FARM-B', (it) => it.farm_b], ['ready on board', (it) => it.ready],
 ];
 
-// An element with its class and what is in it: elements and words.
+// Makes an element with a class and contents: elements and words.
 export function make(name, kind, ...within) {
     const it = document.createElement(name);
     it.className = kind;
@@ -38,7 +38,7 @@ export function pairs(kind, rows) {
     return make('dl', kind, rows.map(pair));
 }
 
-// A value before and after.
+// Shows a value before and after.
 function change(before, after) {
     return before === after ? [after] : [make('span', 'before', `${before} \u2192 `), make('b', '', `${after}`)];
 }
@@ -84,7 +84,7 @@ function fopRow(row, { fop, rules }) {
         rule ? worded(`Rule ${row.rule} of ${row.part}`, rule) : here ? worded('Here', here) : '');
 }
 
-// The event of FARM-1, and its row, with the cell of the state in which it was taken.
+// Shows the event of FARM-1 and its row, with the cell for the state in which the event occurred.
 function farmRow(row, state, { farm, cells }) {
     if (!row) return make('p', 'none', 'No event of the receiver.');
     const shown = (cells[row.event] ?? []).map((cell, k) => [FARM_STATES[k], cell, k === state ? 'taken' : '']);
@@ -98,7 +98,7 @@ export function showMachines(fop, farm, player, made) {
     farm.replaceChildren(...machine(FARM_STATES, FARM, before.farm, after.farm), taken);
 }
 
-// Frames on their way, the first to arrive first.
+// Shows frames in transit, the next to arrive first.
 function frames(title, list, words) {
     const shown = list.slice(0, MOST).map((it) => make('li', '', worded(...words(it))));
     const left = list.length > MOST ? `and ${list.length - MOST} more` : list.length === 0 ? 'nothing' : '';
@@ -127,7 +127,7 @@ export function showPromises(box, found) {
         make('p', found.isIdle ? 'note' : 'note bad', why), make('ul', 'promises', promises));
 }
 
-// What octets are, with what stands within them.
+// Shows decoded octets, with what they contain.
 export function decoded({ fault, name, fields, within }) {
     if (fault !== undefined) return make('p', 'invalid', `invalid ${fault}`);
     return make('div', 'record', make('h3', '', name), pairs('fields', fields), within.map(decoded));

@@ -1,13 +1,13 @@
-// What if: a frame is lost where it arrived, or arrives where it was lost, and the rest of the script is planned again.
-// Its lines stay where they still do something; lines that find nothing go; and at last the link is driven until all
-// is acknowledged, or an alert ends the session. What is sent again follows from the machines alone.
+// What if: reverses whether a frame is lost or arrives, and plans the rest of the script again. Lines stay if they
+// still do something, and are removed otherwise. At the end the link is driven until everything is acknowledged, or an
+// alert ends the session. The machines alone determine what is sent again.
 import { numbers as n } from '../sedgechisel.mjs';
 import { eventOf } from '../link.mjs';
 import { Player } from './player.mjs';
 
 const ROUNDS = 64, MOST = 5000; // rounds, and lines, that are added at most
 
-// Plays lines one after another on a link of its own, and keeps those that do something.
+// Plays lines one after another on its own link, and keeps those that do something.
 class Planner {
     constructor(calls, rows) {
         this.player = new Player(calls);
@@ -26,7 +26,7 @@ class Planner {
         return first < next;
     }
 
-    // Adds a line, unless it finds nothing or is refused, which changes nothing; whether it did.
+    // Adds a line, unless it does nothing or is refused. Returns whether it was added; if not, nothing has changed.
     add(line, wasRefused = false) {
         const [way] = line.split(' '), isEmpty = (way === 'up' || way === 'down') && !this.isWaiting(way);
         if (isEmpty || this.added === MOST) return false;
@@ -38,7 +38,7 @@ class Planner {
         return true;
     }
 
-    // Sends what is to be sent, delivers it and the report on it, and waits for the timer if that changes nothing.
+    // Sends all that is due, delivers it and a CLCW about it, and if that changes nothing waits for the timer.
     round() {
         const before = JSON.stringify(this.now.after.fop);
         while (this.add('send'));
@@ -66,7 +66,7 @@ class Planner {
     }
 }
 
-// The text of a script that begins with some rows, and goes on with the steps of another one from a place on.
+// Returns the text of a script that begins with some rows, and continues with the steps of another one from `from` on.
 function planned({ calls, steps, events }, rows, from) {
     const planner = new Planner(calls, rows), rest = events.slice(from, from + MOST).map(({ line }) => line);
     const isShown = rest.includes('show');
@@ -76,7 +76,7 @@ function planned({ calls, steps, events }, rows, from) {
     return planner.end();
 }
 
-// The script in which the frame of a step meets the other end; null where the step has none.
+// Returns the script with the fate of a step's frame reversed, or null if the step has no frame.
 export function swapped(player, k) {
     const [way, what] = player.events[k]?.line.split(' ') ?? [];
     if (way !== 'up' && way !== 'down') return null;
@@ -84,7 +84,7 @@ export function swapped(player, k) {
     return planned(player, [...rows, `${way} ${what === 'lose' ? 'deliver' : 'lose'}`], k + 1);
 }
 
-// The script in which the frame that a step sent, and that is in transit, is lost, after those before it have arrived.
+// Returns the script in which the frame in transit that a step sent is lost, after those before it have arrived.
 export function lostInTransit(player, k) {
     const way = player.steps[k].sent.word ? 'down' : 'up', [first] = player.last[way];
     const place = player.ways[way].indexOf(player.steps[k].sent, first), count = place - first + 1;

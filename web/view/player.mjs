@@ -1,6 +1,6 @@
-// A script that is played line by line. Each line that was played is kept as a step: its answer, both machines before
-// and after it, the records, and what was in transit. So a step back plays nothing; and where the script changes, the
-// steps before the change stay. A link has no undo: to go on from before its place, a new one plays up to there.
+// Plays a script line by line. Each line played is kept as a step: its answer, both machines before and after it, the
+// records, and what was in transit. So a step back plays nothing. If the script changes, the steps before the change
+// stay. A link has no undo, so to continue from an earlier step, a new link plays up to it.
 import { numbers as n } from '../sedgechisel.mjs';
 import { Machines } from './machines.mjs';
 import { CountedLink, NO_RECORDS } from './records.mjs';
@@ -19,7 +19,7 @@ export class Player {
         this.calls = calls;
     }
 
-    // Takes a script; an Error says what is wrong with it, and then the one before stays.
+    // Takes a script. Throws an Error that states what is wrong with it, and then keeps the previous one.
     load(text) {
         const script = readScript(text, this.script), { config, events } = script;
         const isKept = this.script !== undefined && isSameConfig(config, this.config), steps = isKept ? this.steps : [];
@@ -31,7 +31,7 @@ export class Player {
         this.drop(kept);
     }
 
-    // A new link, on which nothing is played.
+    // Opens a new link, on which nothing has been played.
     restart(config) {
         const link = new CountedLink(this.calls, config), machines = new Machines(this.calls, config);
         this.link?.close();
@@ -46,13 +46,13 @@ export class Player {
         return it;
     }
 
-    // Keeps so many steps; the frames that are gone in others are in transit again.
+    // Keeps this many steps. Frames that arrive or are lost in later steps are in transit again.
     drop(kept) {
         for (const { gone } of this.steps.splice(kept)) if (gone) gone.left = undefined;
         for (const way of ['up', 'down']) this.ways[way].length = this.final[way][1];
     }
 
-    // The step of the line that was played last, and the last of all steps.
+    // The step of the line played last, and the last of all steps.
     get last() {
         return this.at === 0 ? this.begin : this.steps[this.at - 1];
     }
@@ -61,7 +61,7 @@ export class Player {
         return this.steps.at(-1) ?? this.begin;
     }
 
-    // Plays forwards or back, so that this number of lines is played.
+    // Plays forwards or back until this number of lines has been played.
     goTo(count) {
         const wanted = Math.max(0, Math.min(count, this.events.length));
         if (wanted > this.steps.length) this.catchUp();
@@ -72,7 +72,7 @@ export class Player {
         this.at = wanted;
     }
 
-    // Brings the link to the place after the last step.
+    // Brings the link to the state after the last step.
     catchUp() {
         if (this.played === this.steps.length) return;
         if (this.played > this.steps.length) {
@@ -100,16 +100,16 @@ export class Player {
         return { line, event, answer, reply, before, after, rows, records, read, marked, ...took };
     }
 
-    // The place of the step for which frames are sent again: the last in the session that marked units of the sent
-    // queue, or by which a control command is due again.
+    // Returns the index of the step that causes retransmissions: the last one in the session that marked units of the
+    // sent queue, or made a control command due again.
     marking(before, after, { part, rule }) {
         if (after.due > before.due || (part === 'a tick' && rule === 3)) return this.steps.length;
         return part === 'the directives' && rule <= n.SEDGE_INIT_SET_VR ? undefined : this.final.marked;
     }
 
-    // What is in transit after an event, as the places in its way of the first frame and of the one after the last; the
-    // frame that it sent; and the one that is gone. `from` is the step of a frame, `left` that of its end, and `again`
-    // that for which it is sent again.
+    // Returns what is in transit after an event, each way as the indices of the first frame and after the last; the
+    // frame that it sent; and the one that arrived or was lost. Of a frame, `from` is the index of the step that sent
+    // it, `left` that of the step that ends it, and `again` that of the step for which it is sent again.
     transit(event, reply, { up, down }) {
         const from = this.steps.length, { kind, report: word } = reply, isGone = kind !== undefined;
         if (kind === n.SEDGE_REPLY_SENT) {
@@ -135,12 +135,12 @@ export class Player {
         return gone;
     }
 
-    // The frames in transit after a step, the next to arrive first.
+    // Returns the frames in transit after a step, the next to arrive first.
     inTransit({ up, down }) {
         return { up: this.ways.up.slice(...up), down: this.ways.down.slice(...down) };
     }
 
-    // What the link says of its nodes, as far as the module has the calls: the machines are as it says.
+    // Compares the machines with what the link reports about its nodes, as far as the module has the calls.
     compare({ fop, farm }, state) {
         const { calls, machines, link: { sim } } = this, ground = { state }, spacecraft = {};
         calls.sedge_sim_ground_read?.(sim, ground);

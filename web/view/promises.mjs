@@ -1,17 +1,17 @@
-// What is promised of the session (docs/PROMISES.md), and what is seen of it in the records of a step (records.mjs).
+// What is promised of the session (docs/PROMISES.md), and what the records of a step show about it (records.mjs).
 import { numbers as n } from '../sedgechisel.mjs';
 import { plural } from './words.mjs';
 
 const BEGUN = ['', 'without CLCW check', 'with CLCW check', 'by Unlock', 'by Set V(R)'];
 
-// The MAPs on which packets were submitted or delivered, with how many, and whether these are a prefix of those.
+// Returns the MAPs with packets, how many were submitted and delivered, and whether those delivered are a prefix.
 function mapsOf({ maps }) {
     return Object.entries(maps).map(([map, { submitted, delivered, agreed }]) => (
         { map, submitted, delivered, isPrefix: delivered <= submitted && agreed >= delivered }))
         .filter((it) => it.submitted + it.delivered > 0);
 }
 
-// Each promise: its name, what it says, whether it is so (undefined where it says nothing yet), and what is seen.
+// Each promise: its name, its text, whether it holds (undefined if it does not apply yet), and what the records show.
 function inOrder(maps) {
     const seen = maps.map((it) => `MAP ${it.map}: ${it.delivered} delivered of ${it.submitted} submitted`);
     const promise = 'On each MAP the packets delivered are a prefix of those submitted, each once and in order.';
@@ -44,7 +44,7 @@ function noFalseAlarm(calls, { begun, confirmed }, { farm, fop: { alert } }) {
     return ['No false alarm', promise, isSo, [seen], isChecking];
 }
 
-// The session as it is after a step, and its promises; null before one has begun.
+// Returns the session after a step, with its promises, or null before one has begun.
 export function promisesOf(calls, { read, records, after }) {
     const { begun, clean, idle, confirmed } = read, maps = mapsOf(records);
     if (begun === n.SEDGE_BEGUN_NOT) return null;

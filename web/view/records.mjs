@@ -1,13 +1,13 @@
 // The records of a session, step by step: how many packets were submitted and delivered on each MAP, how many frames
-// were sent and accepted, and how many of the first ones agree, octet by octet. Each step keeps its own, so that a step
-// back needs no link.
+// were sent and accepted, and how many of the first ones agree, octet by octet. Each step keeps its own records, so a
+// step back needs no link.
 import { numbers as n } from '../sedgechisel.mjs';
 import { Link } from '../link.mjs';
 
 export const NO_RECORDS = { maps: {}, sent: 0, accepted: 0, agreed: 0 };
 const NO_PACKETS = { submitted: 0, delivered: 0, agreed: 0 };
 
-// A link that counts by the records of its last step, which is quicker than by 64 MAPs.
+// A link that counts from the records of its last step, which is faster than counting 64 MAPs.
 export class CountedLink extends Link {
     constructor(calls, config) {
         super(calls, config);
@@ -47,7 +47,7 @@ export class CountedLink extends Link {
         this.records = { ...this.records, sent, accepted, agreed };
     }
 
-    // How many of the first entries of two records agree, of which so many are known to.
+    // Returns how many of the first entries of two records agree; the first `known` of them are known to.
     agreed(one, other, map, known, most) {
         let k = known;
         while (k < most && isSame(this.entry(one, map, k), this.entry(other, map, k))) k++;

@@ -2,7 +2,7 @@
 const LINES = 1000, OCTETS = 1 << 20;
 const at = (name) => document.getElementById(name);
 
-// The module of tctool, which is in the page as base64 of its gzip.
+// Compiles the module of tctool, which the page contains as base64 of its gzip.
 async function moduleOf(text) {
     const octets = Uint8Array.from(atob(text), (it) => it.charCodeAt(0));
     const whole = new Blob([octets]).stream().pipeThrough(new DecompressionStream('gzip'));
@@ -11,13 +11,13 @@ async function moduleOf(text) {
 
 let compiled; // by the first run, for all
 
-// The address of a program that is in the page.
+// Returns an address for a program that the page contains.
 const addressOf = (text) => URL.createObjectURL(new Blob([text], { type: 'text/javascript' }));
 
 // Runs commands in a worker, one at a time.
 export class Runner {
-    // Runs a command. `take` is given what comes before its end. A run that is stopped, or after which another one
-    // began, never ends.
+    // Runs a command. Passes messages to `take` until the command ends. A run that was stopped, or after which another
+    // one began, never ends.
     async run(asked, take) {
         const turn = this.stop(), module = await (compiled ??= moduleOf(at('tctool').textContent));
         if (turn !== this.turn) return new Promise(() => {});

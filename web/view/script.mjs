@@ -1,16 +1,15 @@
-// A script as its lines and its events. Of a script that differs from the one before in some lines, only those are
-// read.
+// A script as its lines and its events. If a script differs from the previous one in some lines, only those are read.
 import { eventOf, scriptOf } from '../link.mjs';
 
 const isSkipped = (row) => row === '' || row.startsWith('#');
 const isConfig = (row) => row.startsWith('config ');
 
-// How many lines rows are: the last one is none if it is empty, after the last end of a line.
+// Returns the number of lines. If the last one is empty, after the last line end, it does not count.
 export function countOf(rows) {
     return rows.length - (rows.at(-1) === '' && rows.length > 1 ? 1 : 0);
 }
 
-// The place of the first number that is not below another, in numbers that rise.
+// Returns the index of the first number that is at least `least`, in ascending numbers.
 export function placeOf(numbers, least) {
     let from = 0, to = numbers.length;
     while (from < to) {
@@ -21,7 +20,7 @@ export function placeOf(numbers, least) {
     return from;
 }
 
-// How many lines two scripts share at their beginnings, and after these at their ends.
+// Returns how many lines two scripts share at their beginnings, and then at their ends.
 function shared(one, other) {
     const most = Math.min(one.length, other.length);
     let head = 0, tail = 0;
@@ -38,8 +37,8 @@ function readWhole(text, rows) {
     return { rows, config, events, lines, configured: rows.findLastIndex(isConfig) + 1 };
 }
 
-// Reads the lines that differ; null where the whole is to be read, as with a line of the configuration or with an
-// unreadable one.
+// Reads the lines that differ. Returns null if the whole script must be read, for example because a line is unreadable
+// or belongs to the configuration.
 function readAgain(before, rows) {
     const { head, tail } = shared(before.rows, rows), shift = rows.length - before.rows.length;
     const events = [], lines = [], differing = [before.rows, rows].map((it) => it.slice(head, it.length - tail));
@@ -58,8 +57,8 @@ function readAgain(before, rows) {
     };
 }
 
-// Reads a script: its rows, which are all its lines, the configuration, the events, and the row of each event. An Error
-// says which line is unreadable.
+// Reads a script. Returns its rows, which are all its lines, the configuration, the events, and the row of each event.
+// Throws an Error that names an unreadable line.
 export function readScript(text, before) {
     const rows = text.split('\n');
     return (before && readAgain(before, rows)) ?? readWhole(text, rows);

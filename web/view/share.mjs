@@ -1,17 +1,17 @@
-// What is shown as an address, as a file, and as a picture.
+// What is shown, as an address, as a file and as a picture.
 const LONGEST_PLAIN = 600; // characters of a script that stays readable in an address
 export const LONGEST_ADDRESS = 30000; // characters that programs that pass addresses on are known to take
 
 const through = (octets, stream) => new Response(new Blob([octets]).stream().pipeThrough(stream)).arrayBuffer();
 
-// A text as letters of an address: compressed by DEFLATE, as base64 with - and _.
+// Returns a text as letters of an address: compressed by DEFLATE, as base64 with - and _.
 export async function packed(text) {
     const octets = new Uint8Array(await through(text, new CompressionStream('deflate-raw')));
     const letters = Array.from(octets, (it) => String.fromCharCode(it)).join('');
     return btoa(letters).replaceAll('+', '-').replaceAll('/', '_').replace(/=+$/, '');
 }
 
-// The text of such letters; an Error where they are none.
+// Returns the text of such letters. Throws an Error if they do not form one.
 export async function unpacked(letters) {
     try {
         const octets = Uint8Array.from(atob(letters.replaceAll('-', '+').replaceAll('_', '/')), (it) => it.charCodeAt(0));
@@ -21,7 +21,7 @@ export async function unpacked(letters) {
     }
 }
 
-// The part of an address that begins with a script; null where it is too long.
+// Returns the part of an address that contains a script, or null if it is too long.
 export async function scriptPart(text) {
     const plain = `script=${encodeURIComponent(text)}`;
     if (plain.length <= LONGEST_PLAIN) return plain;
@@ -51,7 +51,7 @@ export function pictureOf(svg) {
     return new XMLSerializer().serializeToString(to);
 }
 
-// The same as a PNG, twice as large where that is not too large.
+// Returns the drawing as a PNG, at twice the size unless that is too large.
 export async function pngOf(text, width, height) {
     const scale = height < 8000 ? 2 : 1, canvas = document.createElement('canvas'), image = new Image();
     image.src = `data:image/svg+xml;charset=utf-8,${encodeURIComponent(text)}`;

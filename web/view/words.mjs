@@ -1,4 +1,4 @@
-// Frames and reports in words, and what octets that are pasted are.
+// Describes frames and CLCWs in words, and decodes octets that are pasted.
 import { numbers as n } from '../sedgechisel.mjs';
 import { digitsOf } from '../link.mjs';
 import { FLAGS, flagsOf } from './machines.mjs';
@@ -11,13 +11,13 @@ export function plural(count, word) {
     return `${count} ${word}${count === 1 ? '' : 's'}`;
 }
 
-// A telecommand frame as the ladder has it: 'AD 0', 'BD', 'BC unlock'.
+// Returns the ladder's name for a telecommand frame: 'AD 0', 'BD', 'BC unlock'.
 export function frameName({ kind, n: number, command, vr }) {
     if (kind === n.SEDGE_TC_AD) return `AD ${number}`;
     return kind === n.SEDGE_TC_BD ? 'BD' : command === n.SEDGE_SET_VR ? `BC set ${vr}` : 'BC unlock';
 }
 
-// What a frame carries.
+// Describes what a frame carries.
 export function frameWords(calls, { frame, data }) {
     if (frame.kind === n.SEDGE_TC_BC) return frame.command === n.SEDGE_SET_VR ? `Set V(R) to ${frame.vr}` : 'Unlock';
     const packet = {}, isAlone = frame.flags === n.SEDGE_SEGMENT_ALONE;
@@ -26,7 +26,7 @@ export function frameWords(calls, { frame, data }) {
     return `MAP ${frame.map}: ${what}, ${plural(data.length, 'octet')}`;
 }
 
-// A CLCW as its value and its flags; and as the ladder has it: 'CLCW: value 1, retransmit'.
+// Describes a CLCW by its value and flags; and as in the ladder: 'CLCW: value 1, retransmit'.
 export function valueWords(word) {
     return [`value ${word.value}`, ...flagsOf(word)].join(', ');
 }
@@ -47,14 +47,14 @@ function octetsShown(octets) {
     return `${plural(octets.length, 'octet')}${octets.length > 0 ? `: ${digitsOf(octets)}` : ''}`;
 }
 
-// What octets are by a call: `fields` and `within` make, of the struct and the data that it wrote, what is shown.
+// Decodes octets by a call. `fields` and `within` return what is shown of the struct and the data that it wrote.
 function readBy(call, nameOf, what, fields, within = () => []) {
     const it = {}, place = { from: 0, count: 0 }, fault = call(it, place);
     if (fault !== 0) return { fault: `${fault} ${nameOf(fault)}` };
     return { name: what, end: place.from + place.count, fields: fields(it, place), within: within(it, place) };
 }
 
-// Packets, one after another, that octets begin with.
+// Returns the consecutive packets at the beginning of octets.
 function packetsIn(calls, octets) {
     const found = [];
     for (let at = 0; at < octets.length && found.length < 99; at += found.at(-1).end) {
@@ -107,7 +107,7 @@ function readWord(calls, octets) {
         ]);
 }
 
-// The kinds of octets that are read: to a name and fields, with what stands within, or to the first fault.
+// The kinds of octets that can be decoded: each becomes a name and fields, with what they contain, or the first fault.
 export const KINDS = {
     tc: ['telecommand frame with its FECF', (calls, octets) => readFrame(calls, octets, true)],
     bare: ['telecommand frame without FECF', (calls, octets) => readFrame(calls, octets, false)],
