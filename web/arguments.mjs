@@ -12,8 +12,8 @@ function shown(value) {
 
 /**
  * Returns a number as the module takes it: a bigint for 64 bits. Throws a RangeError if the number is not in the range of
- * its C type, and a TypeError if the value is not a whole number. A C compiler reports these; WebAssembly would take 260 as
- * the octet 4.
+ * its C type, and a TypeError if the value is not a whole number. A C compiler reports such values; WebAssembly would take
+ * 260 as the octet 4.
  * @param {string} name
  * @param {string} kind
  * @param {any} value

@@ -12,7 +12,7 @@ import { LogFault, sedge } from './values.mjs';
 const NONE = new Uint8Array(0);
 
 /**
- * The answer of a call, if it is not refused.
+ * Throws a LogFault if the answer of a call is a refusal.
  * @param {number} answer
  */
 function judge(answer) {

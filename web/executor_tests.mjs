@@ -13,13 +13,13 @@ import { digitsOf, octetsOf } from './link.mjs';
 const textOf = (file) => readFileSync(new URL(`../${file}`, import.meta.url), 'utf8');
 const NONE = new Uint8Array(0), KINDS = ['NOTHING', 'WRITE_FIRST', 'WRITE_SECOND', 'EXECUTE', 'RESTART'];
 
-// The octets that c/tests/log.c has, by their names there.
+// The octets in c/tests/log.c, by their names there.
 const inC = Object.fromEntries(
     [...textOf('c/tests/log.c').matchAll(/^static const uint8_t ([A-Z]+)\[\d+\] = \{([^}]*)\}/gm)]
         .map(([, name, octets]) => [name, Uint8Array.from(octets.split(','), Number)]));
 const { BEFORE, STARTED, BEGUN, PASSED, NEW, BROUGHT, COMMAND, RESTART, REBUILD, SAYS, LOST, CHANGES, STARTS } = inC;
 
-// The worked octets of docs/PROFILE.md, by the beginning of what they are; `k` is the place in a row of several.
+// The worked octets of docs/PROFILE.md whose row begins with `what`; `k` selects one of several in a row.
 function worked(what, k = 0) {
     const [, text] = textOf('docs/PROFILE.md').split('## Commands that are executed once');
     const row = text.split('**Worked octets**')[1].split('\n').find((it) => it.startsWith(`| ${what}`));
@@ -78,8 +78,8 @@ function aCommand() {
     acts(board, 'RESTART');
 }
 
-// No action is requested before the one before it is done, and none is done that was not requested: nothing changes
-// then.
+// An action must be done before the next one is requested, and only the requested action can be done. A call that
+// breaks this rule changes nothing.
 function theRule() {
     const board = new Executor(BEGUN, STARTED, 5), action = board.next(), told = board.status();
     assert.throws(() => board.next(), { constructor: Error, message: 'next before done: WRITE_SECOND is not done' });
@@ -99,7 +99,7 @@ function theRule() {
     board.done(board.next());
 }
 
-// What was begun and not finished is passed over: nothing is known of it.
+// A command that was begun and not finished is passed over: nothing is known of it.
 function aRestartInACommand() {
     const board = new Executor(BEGUN, STARTED, 5);
     acts(board, 'WRITE_SECOND', BEGUN);
@@ -139,7 +139,7 @@ function aNewBoard() {
     assert.deepEqual([boot, last, known], [1, 0, 0n]);
 }
 
-// What the ground writes and reads, as PROFILE has it.
+// What the ground writes and reads, compared with PROFILE.
 function theGround() {
     const packet = commandPacket(5, 44, 301, Uint8Array.of(1, 2, 3)), what = 'a command packet: APID 5, count 44';
     assert.deepEqual([packet, packet], [worked(what), COMMAND]);
@@ -205,7 +205,7 @@ function crc(octets, before) {
     return ~it >>> 0;
 }
 
-// Numbers from 0 to one less than another that a seed makes (mulberry32).
+// Returns a generator of whole numbers below a limit, determined by a seed (mulberry32).
 function chances(seed) {
     let state = seed;
     return (most) => {
@@ -262,7 +262,7 @@ class Session {
         if (this.chance(10) === 0) this.places[1 - place] = new Uint8Array(50);
     }
 
-    // What the status states is so: the history is that of the packets up to the last, and of the begun one.
+    // The status is true: its history is that of the packets up to the last one and the begun one, if there is one.
     hear() {
         const status = BoardStatus.decode(this.board.status()), { kind, last, known, history, begun } = status;
         if (kind !== 'SAYS') return status;
@@ -298,7 +298,7 @@ class Session {
     }
 }
 
-// Whatever happens, commands are executed in order and at most once, and each status states what is so.
+// Whatever happens, commands are executed in order and at most once, and each status is true.
 function randomSessions() {
     const chance = chances(5), kinds = new Set();
     let executed = 0, told = 0;

@@ -1,4 +1,4 @@
-// What the package for JavaScript exports: `await load()` comes first, then nodes are opened.
+// The exports of the package for JavaScript. Call `await load()` before you open a node.
 export { numbers } from './sedgechisel.mjs';
 export { Ground, Spacecraft, load } from './nodes.mjs';
 export {

@@ -52,7 +52,7 @@ export class Link {
     reply: any;
     close(): void;
     /**
-     * Lets an event happen. Returns the line that answers it; the link's answer stays in `reply`.
+     * Makes an event happen. Returns the line that answers it, and keeps the link's answer in `reply`.
      * @param {Event} event
      * @returns {string}
      */

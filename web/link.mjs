@@ -110,7 +110,7 @@ export class Link {
     }
 
     /**
-     * Lets an event happen. Returns the line that answers it; the link's answer stays in `reply`.
+     * Makes an event happen. Returns the line that answers it, and keeps the link's answer in `reply`.
      * @param {Event} event
      * @returns {string}
      */

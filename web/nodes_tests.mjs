@@ -195,7 +195,7 @@ function closed() {
     assert.equal(it.closed, Boolean(Symbol.dispose));
 }
 
-// Nodes that nothing refers to are closed, and one that was closed is not closed again.
+// A node that nothing refers to any more is closed, and a node that was closed is not closed again.
 async function forgotten() {
     const close = calls.sedge_ground_close;
     let count = 0;
@@ -248,7 +248,7 @@ function wrongArguments() {
     assert.ok(tried > 400, tried);
 }
 
-// Each fault has the text that a program in C gets for its number; a parameter has its name in JavaScript.
+// Each fault has the text that a program in C gets for its number, except that a parameter has its JavaScript name.
 function texts() {
     const header = readFileSync(new URL('../c/include/sedgechisel_faults.h', import.meta.url), 'utf8');
     const kinds = {
@@ -280,7 +280,7 @@ function names() {
     }
 }
 
-// The comments of the classes use the words of JavaScript. The only name of C in them is of a call that no class has.
+// The comments of the classes use the words of JavaScript. The only C name in them is that of a call that no class has.
 function comments() {
     for (const file of ['nodes', 'simulated', 'executor', 'values']) {
         const text = readFileSync(new URL(`${file}.mjs`, import.meta.url), 'utf8').replace(/import\('[^']*'\)\.\w+/g, '');

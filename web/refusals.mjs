@@ -50,7 +50,7 @@ function wrongFields({ type, count }) {
     return [...within(0), ...within(count - 1), ...lengths, ...kinds];
 }
 
-// The fields of a struct; a pointer to octets and their count are one field.
+// The fields of a struct; a pointer to octets and the count of the octets are one field.
 function fieldsOf(name) {
     const fields = structs[name];
     return fields.filter((it, k) => !(it.name === 'count' && fields[k - 1]?.type === 'pointer'))

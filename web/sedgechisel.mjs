@@ -17,9 +17,9 @@ const READ = { 1: (view, at) => view.getUint8(at), 2: (view, at) => view.getUint
 const WRITE = { 1: (view, at, it) => view.setUint8(at, it), 2: (view, at, it) => view.setUint16(at, it, true),
     4: (view, at, it) => view.setUint32(at, it, true), 8: (view, at, it) => view.setBigUint64(at, it, true) };
 
-// The memory of nodes, and of the arguments of calls: places of 16, 32, 64 .. octets after the module's own memory, with
-// a list of the free places of each size. The order of a place (its size as a power of 2) is in an array, by the
-// address of the place, because a large Map is slow to delete an entry.
+// The memory of nodes, and of the arguments of calls: places of 16, 32, 64 .. octets after the module's own memory,
+// with a list of the free places of each size. An array contains the order of each place (its size as a power of 2),
+// indexed by its address, because deleting an entry of a large Map is slow.
 class Places {
     constructor(memory, begin) {
         this.memory = memory;
@@ -149,7 +149,7 @@ function sizeOf(kind) {
     return structs[kind]?.size ?? SIZES[kind];
 }
 
-// The most octets that an argument takes in the buffer of a call.
+// The maximum number of octets that an argument takes in the buffer of a call.
 function roomOf(way, kind, value) {
     if (way === 'value') return 0;
     if (way === 'octets' || way === 'room') return value.length + 16;

@@ -1,5 +1,5 @@
-// Tests the module for JavaScript: `node tests.mjs MODULE`. Covers codecs, both machines, two nodes, memory that is
-// released, and what is wrong. Exits with 0 if all is as expected, and otherwise with an Error that states what is not.
+// Tests the module for JavaScript: `node tests.mjs MODULE`. Covers codecs, both machines, two nodes, the release of
+// memory, and wrong arguments. Exits with 0 if all is as expected, and otherwise with an Error that states what is not.
 import assert from 'node:assert/strict';
 import { readFileSync } from 'node:fs';
 import { load, numbers as n } from './sedgechisel.mjs';

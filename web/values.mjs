@@ -253,7 +253,7 @@ export function clcwOf({ status, vcid, flags, farm_b: farmB, value }) {
 // ---- Received octets. ----
 
 /**
- * What the spacecraft makes of received octets: their `kind`, and what that kind has. INVALID: `fault`. AD: the number
+ * What the spacecraft makes of received octets: their `kind`, and its own fields. INVALID: `fault`. AD: the number
  * `n`, the `verdict`, how many packets became `ready` with it, and why octets on its MAP were `dropped`, in the word that
  * tctool prints, or null. BD: whether it carried a packet, which is then `kept`. BC: the `command`, and the number `vr` of
  * Set V(R).
@@ -275,11 +275,11 @@ export function receivedOf(it) {
 }
 
 /**
- * What the ground makes of received octets: their `kind`, and what that kind has. INVALID: `fault`. TM: how many frames are
+ * What the ground makes of received octets: their `kind`, and its own fields. INVALID: `fault`. TM: how many frames are
  * missing before it (`gap`), or null for the first; how many `packets` it added to those that wait to be taken; what became
- * of its `report`; the `word` itself, or the `wordFault` if the report is REFUSED; and why the sender has given up
- * (`alert`), or null. CLCW: `report`, `word`, `wordFault` and `alert`, as for TM. The `word` is of any virtual channel; from
- * a `Link` it is null, because `report` has returned it.
+ * of its CLCW (`report`); the CLCW itself (`word`), or the `wordFault` if the report is REFUSED; and why the sender has
+ * given up (`alert`), or null. CLCW: `report`, `word`, `wordFault` and `alert`, as for TM. The `word` is of any virtual
+ * channel; from a `Link` it is null, because `report` has returned it.
  * @typedef {{ kind: 'INVALID' | 'FOREIGN' | 'TM' | 'CLCW', fault: TmFault | null, gap: number | null, packets: number,
  * report: Report | null, wordFault: ClcwFault | null, alert: Alert | null, word: Clcw | null }} Heard
  */
