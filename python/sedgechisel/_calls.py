@@ -53,7 +53,7 @@ class _Struct:
 
     @classmethod
     def _of(cls: Type[_Own], memory: Any) -> _Own:
-        """Returns the struct that has this memory."""
+        """Returns a struct over this memory."""
         struct = cls.__new__(cls)
         struct._memory = memory
         return struct
@@ -615,8 +615,8 @@ _tc_encode = _call("tc_encode", c_uint8, POINTER(TcFrame._C), c_char_p, c_size_t
 _tc_declared = _call("tc_declared", c_uint8, c_char_p, c_size_t, c_bool, POINTER(c_size_t))
 _tc_frames = _call("tc_frames", c_size_t, c_char_p, c_size_t, c_bool, c_char_p, c_size_t, POINTER(c_size_t))
 
-# What `_tc_frames` writes of a frame, 12 octets: the number of its octets, its fault, and from the fourth octet on its
-# fields, of which the kind is needed; and how many octets and frames it is given at once.
+# The record that `_tc_frames` writes for each frame: its size, and where the fault, the fields and the kind are. The
+# first two octets are the length of the frame. Then the maximum of octets and of frames for one call.
 _FOUND, _FAULT, _FIELDS, _KIND = 12, 2, 3, 6
 _PIECE, _MOST = 65536, 512
 
@@ -651,8 +651,8 @@ _Wanted = Tuple[int, bytes]  # a place in a record, and a table with 1 for each 
 
 
 def _wanted(name: str, number: Optional[int], most: int, parts: Iterable[Tuple[int, int, int]]) -> Iterator[_Wanted]:
-    """Yields the values that octets must have to hold this number, unless it is None. Each part is a place, a mask for
-    its octet, and the left shift from these bits to the number's; a shift below 0 is to the right."""
+    """Yields the values that octets must have if they contain this number; nothing if it is None. Each part is a place,
+    a mask for its octet, and the left shift from its bits to the number; a shift below 0 is to the right."""
     if number is None:
         return
     if not 0 <= _number_of(name, number) <= most:
@@ -663,7 +663,7 @@ def _wanted(name: str, number: Optional[int], most: int, parts: Iterable[Tuple[i
 
 
 def _chosen(records: bytes, size: int, count: int, wanted: Iterable[_Wanted]) -> bytearray:
-    """Returns 1 for each of `count` records of this size that has the octets wanted, and 0 for each other one."""
+    """Returns 1 for each of `count` records of this size that has the octets wanted, and 0 for all others."""
     chosen = int.from_bytes(b"\1" * count, "little")
     for place, table in wanted:
         chosen &= int.from_bytes(records[place:count * size:size].translate(table), "little")
@@ -997,14 +997,14 @@ def _frames_with(octets: bytes, length: int, wanted: Sequence[_Wanted]) -> bytes
     return b"".join([*(view[begun:begun + length] for begun in chosen), view[whole * length:]])
 
 
-# What `_tm_extractor_frames` writes of a frame: the number of octets of its packets, its fault, whether it is the first
-# frame, how many are missing before it, and whether a packet is dropped; and its fields, from the ninth octet on.
+# The record that `_tm_extractor_frames` writes for each frame: the number of octets of its packets, its fault, whether
+# it is the first, how many are missing before it, whether a packet is dropped, and from the ninth octet on its fields.
 _TAKEN, _TAKEN_FIELDS = Struct("<IBBBB11x"), 8
 
 
 def _add_taken(answers: List[TakenFrame], many: Any, records: bytes, octets: bytes) -> int:
-    """Adds the frames that these records describe, at most so many, whose packets have these octets. Returns the number
-    of packets that were dropped."""
+    """Adds the frames that these records describe. `many` is an array of at least that many frames, and `octets` has
+    their packets. Returns the number of packets that were dropped."""
     frames, end, all_dropped = _structs_with(TmFrame, _structs_of(many, records, _TAKEN.size, _TAKEN_FIELDS)), 0, 0
     for frame, (count, fault, first, lost, dropped) in zip(frames, _TAKEN.iter_unpack(records)):
         packets: List[bytes] = []

@@ -9,7 +9,7 @@ from ._faults import ClcwFault, Fault, TcFault, TmFault
 from ._ladder import clcw_name
 from ._library import frame_length_of
 
-_FARTHEST = 300  # how many frames after the previous CLCW are searched for those that cause the next one
+_FARTHEST = 300  # how many frames after the previous CLCW may have caused the next one
 _LOCKOUT, _WAIT, _RETRANSMIT = int(Flags.LOCKOUT), int(Flags.WAIT), int(Flags.RETRANSMIT)
 _State = Tuple[int, int, int]  # of a receiver: V(R), FARM-B and flags
 _States = Dict[Tuple[int, int], int]  # by FARM-B and flags; bit v is 1 if V(R) may be v
@@ -66,7 +66,7 @@ def _words(octets: bytes, length: Optional[int], scid: Optional[int], vcid: Opti
 
 
 def _alone(state: _State) -> _States:
-    """Returns a state, and the one in which a buffer has become free since."""
+    """Returns the states in which a receiver may be: this one, and this one after a buffer has become free."""
     value, counter, flags = state
     return {(counter, flags): 1 << value, (counter, flags & ~_WAIT): 1 << value}
 
@@ -127,7 +127,7 @@ def _placed(frames: Sequence[Union[TcFrame, TcFault]], words: Sequence[_Word]) -
 
 
 def _down(placed: Iterable[Tuple[int, str, str, bool]]) -> Iterator[Tuple[int, Record]]:
-    """Yields the records of CLCWs, equal ones between two frames as one."""
+    """Yields the records of CLCWs. Equal CLCWs between two frames are one record."""
     for (place, name, told, is_valid), run in groupby(enumerate(placed, 1), lambda it: it[1]):
         first, *_, last = [number for number, _ in run] * 2
         numbers = f"{first}" if first == last else f"{first} to {last}"

@@ -18,7 +18,7 @@ class Text(ctypes.Structure):
 
 
 def word_of(kind: str, library: ctypes.PyDLL = FIRST) -> Callable[[int], str]:
-    """Returns a function that returns the word of a number of one kind, as tctool prints it."""
+    """Returns a function from numbers of one kind to the words that tctool prints for them."""
     name = call_of(library, kind + "_name", Text, ("number", c_uint8))
     return lambda number: str(name(number).text.decode())
 
@@ -198,7 +198,7 @@ class MapFault(Fault):
 
 
 class LogFault(Fault):
-    """Why a board does not take a packet, a record or a status is not read, or a packet is not written."""
+    """Why a board does not take a packet, why a record or a status is not read, or why a packet is not written."""
 
     class Number(Numbers):
         (LAYOUT, CHECK, STARTING, BUSY, LOST, BEHIND, AHEAD, OTHER_BOOT, NOT_LOST, OTHER_MARK, FIELD_RANGE,

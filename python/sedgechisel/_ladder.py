@@ -78,7 +78,7 @@ def clcw_name(word: bytes) -> str:
 
 
 class _Ladder(Picture):
-    """A ladder of this number of rows. Anything above the first row is left out."""
+    """A ladder with this number of rows. Anything above the first row is omitted."""
 
     def __init__(self, rows: int, title: str) -> None:
         super().__init__(_WIDTH, 80 + _ROW * rows, f"The ladder of {title}")
@@ -110,7 +110,7 @@ class _Ladder(Picture):
 
 
 class _Session(_Ladder):
-    """The ladder of a script. `_ways` has the frames in transit each way: where they begin, and their names."""
+    """The ladder of a script. `_ways` contains the frames in transit each way: where they begin, and their names."""
 
     def __init__(self, rows: int, title: str, name_of: Callable[[bytes], str]) -> None:
         super().__init__(rows, title)
@@ -118,7 +118,7 @@ class _Session(_Ladder):
         self._ways: Dict[str, List[Tuple[int, str]]] = {"up": [], "down": []}
 
     def _arrives(self, way: str, what: str, answer: str, y: int) -> None:
-        """Adds what becomes of the first frame in transit."""
+        """Adds the fate of the first frame in transit."""
         is_up, (begun, label) = way == "up", self._ways[way].pop(0)
         if what == "lose":
             self.lost(is_up, begun, y)

@@ -1,4 +1,4 @@
-"""Loads the shared libraries, and makes their calls."""
+"""Loads the shared libraries, and makes Python functions of their calls."""
 from __future__ import annotations
 
 import ctypes
@@ -74,8 +74,8 @@ def room_of(name: str, count: Any) -> Any:
 
 
 def lent(most: int = LONGEST) -> Any:
-    """Returns a buffer for this many octets. Buffers are kept, because creating one takes longer than most calls; only
-    one call at a time uses each."""
+    """Returns a buffer for this many octets. They are reused, because creating one takes longer than most calls. Only
+    one call at a time uses each buffer."""
     try:
         return _rooms.pop() if most <= LONGEST else room_of("most", most)
     except IndexError:
@@ -89,7 +89,7 @@ def give_back(room: Any) -> None:
 
 
 def written(look_at: Callable[[int], Any], call: Callable[..., int], most: int, *values: Any) -> bytes:
-    """Returns the octets that a call writes (it writes their number too), given a buffer for the maximum."""
+    """Returns the octets that a call writes into a buffer of the maximum size. The call writes their number too."""
     count, room = c_size_t(), lent(most)
     look_at(call(*values, room, most, count))
     octets: bytes = room[:count.value]
@@ -98,7 +98,7 @@ def written(look_at: Callable[[int], Any], call: Callable[..., int], most: int, 
 
 
 def octets_of(name: str, value: Any) -> bytes:
-    """Returns octets as `bytes`. Raises TypeError if the value has none, as a number or a str."""
+    """Returns octets as `bytes`. Raises TypeError if the value contains none, for example a number or a str."""
     if type(value) is bytes:
         return value
     if isinstance(value, bytes):
@@ -117,9 +117,9 @@ def struct_of(name: str, kind: Any, value: Any) -> Any:
 
 
 def call_of(library: ctypes.PyDLL, name: str, answer: Any, *kinds: Any) -> Callable[..., Any]:
-    """Makes a call of a library. Each number that a caller passes has a name and a kind; one that does not fit its kind
-    raises an OverflowError, where ctypes would truncate it. A struct is passed as it is: ctypes makes the pointer, in
-    half the time that `byref` takes."""
+    """Makes a function of a library call. Each number that a caller passes has a name and a kind. A number that does
+    not fit its kind raises an OverflowError; ctypes would truncate it. A struct is passed as it is: ctypes makes the
+    pointer, in half the time that `byref` takes."""
     call: Any = getattr(library, "sedge_" + name)
     call.restype, call.argtypes = answer, [it[1] if isinstance(it, tuple) else it for it in kinds]
     numbers = [(place, *it) for place, it in enumerate(kinds) if isinstance(it, tuple)]

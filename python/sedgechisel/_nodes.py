@@ -193,7 +193,7 @@ class Handle(Single):
         return answer
 
     def _is_absent(self, answer: int) -> bool:
-        """Returns whether a call answers that there is nothing. Raises the fault if it answers neither that nor 0."""
+        """Returns whether a call reports that there is nothing. Raises the fault for any other answer except 0."""
         return answer == _ABSENT or bool(self._asked(answer))
 
     def _number(self, call: Callable[..., int]) -> int:
@@ -203,7 +203,7 @@ class Handle(Single):
         return number.value
 
     def _given(self, call: Callable[..., int], most: int, *values: Any) -> bytes:
-        """Returns what a call writes, given a buffer for the maximum that it may write."""
+        """Returns what a call writes into a buffer of the maximum size."""
         return _written(self._asked, call, most, self._handle, *values)
 
     def _take_out(self, call: Callable[..., int], most: int, made: Callable[[int, bytes], Any], *map: c_uint8) -> Any:
@@ -271,7 +271,7 @@ _ALERTS, _VERDICTS = dict(enumerate(Alert)), dict(enumerate(Verdict))
 
 @dataclass(frozen=True)
 class Received:
-    """What the spacecraft makes of received octets: their `kind`, and what that kind has.
+    """What the spacecraft makes of received octets: their `kind`, and its own fields.
 
     - INVALID: `fault`
     - AD: the frame's number `n`, the `verdict`, the number of packets that became `ready` with it, and why octets on
@@ -308,12 +308,12 @@ class _Received(ctypes.Structure):
 
 @dataclass(frozen=True)
 class Heard:
-    """What the ground makes of received octets: their `kind`, and what that kind has.
+    """What the ground makes of received octets: their `kind`, and its own fields.
 
     - INVALID: `fault`
     - TM: the number of frames missing before it (`gap`), or None for the first; the number of `packets` that it added
-      to those that wait to be taken; what became of its `report`; the `word` itself, or the `word_fault` if the report
-      is REFUSED; and why the sender has given up (`alert`)
+      to those that wait to be taken; what became of its CLCW (`report`); the CLCW itself (`word`), or the `word_fault`
+      if the report is REFUSED; and why the sender has given up (`alert`)
     - CLCW: `report`, `word`, `word_fault` and `alert`, as for TM
 
     `word` is a Clcw, of any virtual channel. From a `Link` it is None, because `Link.report` has returned it."""
@@ -333,7 +333,7 @@ class _Heard(ctypes.Structure):
                 ("report", c_uint8), ("word_fault", c_uint8), ("alert", c_uint8)]
 
     def value(self, ocf: Octets = b"") -> Heard:
-        """Returns what arrived, with these four octets as its CLCW."""
+        """Returns the Heard that describes what arrived. These four octets are its CLCW."""
         if self.kind == 1:
             return Heard(Arrived.INVALID, fault=TmFault(self.fault))
         if self.kind == 2:
@@ -670,4 +670,4 @@ _ground_resume = _call("ground_resume", c_uint8, POINTER(_Raw), ("value", c_uint
 _ground_accepted_beyond = _call("ground_accepted_beyond", c_uint8, POINTER(_Raw), ("value", c_uint8), POINTER(c_uint8))
 _ground_read = _call("ground_read", c_uint8, POINTER(_Raw), POINTER(_GroundReading))
 
-_each_called: Any = partial(map, partial.__call__)  # the calls are made where its answers are unpacked, in one step
+_each_called: Any = partial(map, partial.__call__)  # unpacking its answers makes the calls, in one step
