@@ -295,8 +295,8 @@ pub struct Limits {
 
 // ---- tools/bindings makes what follows of the exports of the library. ----
 
-// SAFETY: these are the library's calls with their types. One without the address of octets asks nothing of its caller
-// but references, and so is safe.
+// SAFETY: these are the library's calls with their types. A call without the address of octets requires only references
+// from its caller, so it is safe.
 #[rustfmt::skip]
 unsafe extern "C" {
     pub safe fn sedge_version() -> Text;
@@ -418,77 +418,77 @@ unsafe extern "C" {
 }
 
 pub fn check(octets: &[u8]) -> u16 {
-    // SAFETY: each pointer to octets and the count after it are those of one slice; the others are references.
+    // SAFETY: each pointer to octets and the count after it come from one slice; all other pointers are references.
     unsafe { sedge_check(octets.as_ptr(), octets.len()) }
 }
 
 pub fn check_append(octets: &mut [u8]) -> bool {
-    // SAFETY: each pointer to octets and the count after it are those of one slice; the others are references.
+    // SAFETY: each pointer to octets and the count after it come from one slice; all other pointers are references.
     unsafe { sedge_check_append(octets.as_mut_ptr(), octets.len()) }
 }
 
 pub fn check_holds(octets: &[u8]) -> bool {
-    // SAFETY: each pointer to octets and the count after it are those of one slice; the others are references.
+    // SAFETY: each pointer to octets and the count after it come from one slice; all other pointers are references.
     unsafe { sedge_check_holds(octets.as_ptr(), octets.len()) }
 }
 
 pub fn clcw_decode(octets: &[u8], word: &mut Clcw) -> u8 {
-    // SAFETY: each pointer to octets and the count after it are those of one slice; the others are references.
+    // SAFETY: each pointer to octets and the count after it come from one slice; all other pointers are references.
     unsafe { sedge_clcw_decode(octets.as_ptr(), octets.len(), word) }
 }
 
 pub fn clcw_encode(word: &Clcw, out: &mut [u8]) -> u8 {
-    // SAFETY: each pointer to octets and the count after it are those of one slice; the others are references.
+    // SAFETY: each pointer to octets and the count after it come from one slice; all other pointers are references.
     unsafe { sedge_clcw_encode(word, out.as_mut_ptr(), out.len()) }
 }
 
 pub fn tc_decode(octets: &[u8], checked: bool, frame: &mut TcFrame, data: &mut Part) -> u8 {
-    // SAFETY: each pointer to octets and the count after it are those of one slice; the others are references.
+    // SAFETY: each pointer to octets and the count after it come from one slice; all other pointers are references.
     unsafe { sedge_tc_decode(octets.as_ptr(), octets.len(), checked, frame, data) }
 }
 
 pub fn tc_encode(frame: &TcFrame, data: &[u8], checked: bool, out: &mut [u8], total: &mut usize) -> u8 {
-    // SAFETY: each pointer to octets and the count after it are those of one slice; the others are references.
+    // SAFETY: each pointer to octets and the count after it come from one slice; all other pointers are references.
     unsafe { sedge_tc_encode(frame, data.as_ptr(), data.len(), checked, out.as_mut_ptr(), out.len(), total) }
 }
 
 pub fn tc_declared(octets: &[u8], checked: bool, total: &mut usize) -> u8 {
-    // SAFETY: each pointer to octets and the count after it are those of one slice; the others are references.
+    // SAFETY: each pointer to octets and the count after it come from one slice; all other pointers are references.
     unsafe { sedge_tc_declared(octets.as_ptr(), octets.len(), checked, total) }
 }
 
 pub fn tc_frames(octets: &[u8], checked: bool, out: &mut [u8], total: &mut usize) -> usize {
-    // SAFETY: each pointer to octets and the count after it are those of one slice; the others are references.
+    // SAFETY: each pointer to octets and the count after it come from one slice; all other pointers are references.
     unsafe { sedge_tc_frames(octets.as_ptr(), octets.len(), checked, out.as_mut_ptr(), out.len(), total) }
 }
 
 pub fn packet_decode(octets: &[u8], packet: &mut Packet, data: &mut Part) -> u8 {
-    // SAFETY: each pointer to octets and the count after it are those of one slice; the others are references.
+    // SAFETY: each pointer to octets and the count after it come from one slice; all other pointers are references.
     unsafe { sedge_packet_decode(octets.as_ptr(), octets.len(), packet, data) }
 }
 
 pub fn packet_encode(packet: &Packet, data: &[u8], out: &mut [u8], total: &mut usize) -> u8 {
-    // SAFETY: each pointer to octets and the count after it are those of one slice; the others are references.
+    // SAFETY: each pointer to octets and the count after it come from one slice; all other pointers are references.
     unsafe { sedge_packet_encode(packet, data.as_ptr(), data.len(), out.as_mut_ptr(), out.len(), total) }
 }
 
 pub fn packet_declared(octets: &[u8], total: &mut usize) -> u8 {
-    // SAFETY: each pointer to octets and the count after it are those of one slice; the others are references.
+    // SAFETY: each pointer to octets and the count after it come from one slice; all other pointers are references.
     unsafe { sedge_packet_declared(octets.as_ptr(), octets.len(), total) }
 }
 
 pub fn tm_decode(octets: &[u8], length: usize, frame: &mut TmFrame, data: &mut Part) -> u8 {
-    // SAFETY: each pointer to octets and the count after it are those of one slice; the others are references.
+    // SAFETY: each pointer to octets and the count after it come from one slice; all other pointers are references.
     unsafe { sedge_tm_decode(octets.as_ptr(), octets.len(), length, frame, data) }
 }
 
 pub fn tm_encode(frame: &TmFrame, data: &[u8], out: &mut [u8], total: &mut usize) -> u8 {
-    // SAFETY: each pointer to octets and the count after it are those of one slice; the others are references.
+    // SAFETY: each pointer to octets and the count after it come from one slice; all other pointers are references.
     unsafe { sedge_tm_encode(frame, data.as_ptr(), data.len(), out.as_mut_ptr(), out.len(), total) }
 }
 
 pub fn tm_builder_queue(builder: &mut TmBuilder, packet: &[u8], memory: &mut [u8]) -> u8 {
-    // SAFETY: each pointer to octets and the count after it are those of one slice; the others are references.
+    // SAFETY: each pointer to octets and the count after it come from one slice; all other pointers are references.
     unsafe {
         sedge_tm_builder_queue(builder, packet.as_ptr(), packet.len(), memory.as_mut_ptr(), memory.len())
     }
@@ -497,7 +497,7 @@ pub fn tm_builder_queue(builder: &mut TmBuilder, packet: &[u8], memory: &mut [u8
 pub fn tm_builder_build(
     builder: &mut TmBuilder, ocf: &[u8], memory: &[u8], out: &mut [u8], total: &mut usize,
 ) -> u8 {
-    // SAFETY: each pointer to octets and the count after it are those of one slice; the others are references.
+    // SAFETY: each pointer to octets and the count after it come from one slice; all other pointers are references.
     unsafe {
         sedge_tm_builder_build(
             builder,
@@ -515,7 +515,7 @@ pub fn tm_builder_build(
 pub fn tm_extractor_frame(
     extractor: &mut TmExtractor, frame: &TmFrame, data: &[u8], memory: &mut [u8], extracted: &mut TmExtracted,
 ) -> u8 {
-    // SAFETY: each pointer to octets and the count after it are those of one slice; the others are references.
+    // SAFETY: each pointer to octets and the count after it come from one slice; all other pointers are references.
     unsafe {
         sedge_tm_extractor_frame(
             extractor,
@@ -530,7 +530,7 @@ pub fn tm_extractor_frame(
 }
 
 pub fn tm_packet(data: &[u8], packet: &mut Part) -> bool {
-    // SAFETY: each pointer to octets and the count after it are those of one slice; the others are references.
+    // SAFETY: each pointer to octets and the count after it come from one slice; all other pointers are references.
     unsafe { sedge_tm_packet(data.as_ptr(), data.len(), packet) }
 }
 
@@ -538,7 +538,7 @@ pub fn tm_extractor_frames(
     extractor: &mut TmExtractor, octets: &[u8], frame_length: usize, memory: &mut [u8], out: &mut [u8],
     packets: &mut [u8], total: &mut usize,
 ) -> usize {
-    // SAFETY: each pointer to octets and the count after it are those of one slice; the others are references.
+    // SAFETY: each pointer to octets and the count after it come from one slice; all other pointers are references.
     unsafe {
         sedge_tm_extractor_frames(
             extractor,
@@ -557,64 +557,64 @@ pub fn tm_extractor_frames(
 }
 
 pub fn map_take(map: &mut Map, flags: u8, data: &[u8], memory: &mut [u8], taken: &mut Taken) -> u8 {
-    // SAFETY: each pointer to octets and the count after it are those of one slice; the others are references.
+    // SAFETY: each pointer to octets and the count after it come from one slice; all other pointers are references.
     unsafe { sedge_map_take(map, flags, data.as_ptr(), data.len(), memory.as_mut_ptr(), memory.len(), taken) }
 }
 
 pub fn map_packet(octets: &[u8], packet: &mut Part) -> bool {
-    // SAFETY: each pointer to octets and the count after it are those of one slice; the others are references.
+    // SAFETY: each pointer to octets and the count after it come from one slice; all other pointers are references.
     unsafe { sedge_map_packet(octets.as_ptr(), octets.len(), packet) }
 }
 
 pub fn map_count(octets: &[u8], limits: &Limits, segments: &mut usize) -> u8 {
-    // SAFETY: each pointer to octets and the count after it are those of one slice; the others are references.
+    // SAFETY: each pointer to octets and the count after it come from one slice; all other pointers are references.
     unsafe { sedge_map_count(octets.as_ptr(), octets.len(), limits, segments) }
 }
 
 pub fn map_segment(octets: &[u8], limits: &Limits, k: usize, flags: &mut u8, data: &mut Part) -> u8 {
-    // SAFETY: each pointer to octets and the count after it are those of one slice; the others are references.
+    // SAFETY: each pointer to octets and the count after it come from one slice; all other pointers are references.
     unsafe { sedge_map_segment(octets.as_ptr(), octets.len(), limits, k, flags, data) }
 }
 
 pub fn log_start(log: &mut Log, first: &[u8], second: &[u8], mark: u32) {
-    // SAFETY: each pointer to octets and the count after it are those of one slice; the others are references.
+    // SAFETY: each pointer to octets and the count after it come from one slice; all other pointers are references.
     unsafe { sedge_log_start(log, first.as_ptr(), first.len(), second.as_ptr(), second.len(), mark) }
 }
 
 pub fn log_next(log: &Log, out: &mut [u8], number: &mut u32) -> u8 {
-    // SAFETY: each pointer to octets and the count after it are those of one slice; the others are references.
+    // SAFETY: each pointer to octets and the count after it come from one slice; all other pointers are references.
     unsafe { sedge_log_next(log, out.as_mut_ptr(), out.len(), number) }
 }
 
 pub fn log_offer(log: &mut Log, octets: &[u8], content: &mut Part) -> u8 {
-    // SAFETY: each pointer to octets and the count after it are those of one slice; the others are references.
+    // SAFETY: each pointer to octets and the count after it come from one slice; all other pointers are references.
     unsafe { sedge_log_offer(log, octets.as_ptr(), octets.len(), content) }
 }
 
 pub fn log_obey(log: &mut Log, octets: &[u8]) -> u8 {
-    // SAFETY: each pointer to octets and the count after it are those of one slice; the others are references.
+    // SAFETY: each pointer to octets and the count after it come from one slice; all other pointers are references.
     unsafe { sedge_log_obey(log, octets.as_ptr(), octets.len()) }
 }
 
 pub fn log_status(log: &Log, waiting: usize, out: &mut [u8]) -> u8 {
-    // SAFETY: each pointer to octets and the count after it are those of one slice; the others are references.
+    // SAFETY: each pointer to octets and the count after it come from one slice; all other pointers are references.
     unsafe { sedge_log_status(log, waiting, out.as_mut_ptr(), out.len()) }
 }
 
 pub fn log_new_record(out: &mut [u8]) -> u8 {
-    // SAFETY: each pointer to octets and the count after it are those of one slice; the others are references.
+    // SAFETY: each pointer to octets and the count after it come from one slice; all other pointers are references.
     unsafe { sedge_log_new_record(out.as_mut_ptr(), out.len()) }
 }
 
 pub fn log_status_decode(octets: &[u8], status: &mut BoardStatus) -> u8 {
-    // SAFETY: each pointer to octets and the count after it are those of one slice; the others are references.
+    // SAFETY: each pointer to octets and the count after it come from one slice; all other pointers are references.
     unsafe { sedge_log_status_decode(octets.as_ptr(), octets.len(), status) }
 }
 
 pub fn log_command_encode(
     apid: u16, count: u16, number: u32, content: &[u8], out: &mut [u8], total: &mut usize,
 ) -> u8 {
-    // SAFETY: each pointer to octets and the count after it are those of one slice; the others are references.
+    // SAFETY: each pointer to octets and the count after it come from one slice; all other pointers are references.
     unsafe {
         sedge_log_command_encode(
             apid,
@@ -630,11 +630,11 @@ pub fn log_command_encode(
 }
 
 pub fn log_order_encode(order: &LogOrder, apid: u16, count: u16, out: &mut [u8], total: &mut usize) -> u8 {
-    // SAFETY: each pointer to octets and the count after it are those of one slice; the others are references.
+    // SAFETY: each pointer to octets and the count after it come from one slice; all other pointers are references.
     unsafe { sedge_log_order_encode(order, apid, count, out.as_mut_ptr(), out.len(), total) }
 }
 
 pub fn log_history_after(history: u32, packet: &[u8]) -> u32 {
-    // SAFETY: each pointer to octets and the count after it are those of one slice; the others are references.
+    // SAFETY: each pointer to octets and the count after it come from one slice; all other pointers are references.
     unsafe { sedge_log_history_after(history, packet.as_ptr(), packet.len()) }
 }

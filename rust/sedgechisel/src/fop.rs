@@ -172,8 +172,8 @@ impl Fop {
             control,
             vr,
         };
-        // Setting the limit to its own value changes nothing in a sender, and is refused if these are not a sender's
-        // fields.
+        // Setting the limit to the value that it has changes nothing in a sender. The call refuses fields that no sender
+        // can have.
         CopFault::judge(ffi::sedge_fop_directive(&mut fop, SEDGE_SET_LIMIT, fields.limit.into()))?;
         Ok(Self(fop))
     }

@@ -92,7 +92,7 @@ impl<'m> Map<'m> {
 pub struct Taken<'t> {
     /// The packets that are whole now, in the MAP's memory or in the segment's data.
     pub packets: Packets<'t>,
-    /// Why octets were dropped, if any were; the later of two causes.
+    /// Why octets were dropped, if any were. If there are two causes, this is the later one.
     pub dropped: Option<Dropped>,
 }
 

@@ -37,8 +37,8 @@ pub(crate) fn room_for(count: usize) -> Option<Vec<u8>> {
     Some(room)
 }
 
-/// A packet of `count` octets that a call takes out; nothing if there is none. The call is made only if there is memory
-/// for the packet.
+/// Takes a packet of `count` octets out of a node. Returns `None` if the count is 0. Calls `take` only if there is
+/// memory for the packet.
 fn taken(count: usize, take: impl FnOnce(&mut [u8], &mut usize) -> u8) -> Result<Option<Vec<u8>>, LinkFault> {
     if count == 0 {
         return Ok(None);
@@ -48,7 +48,7 @@ fn taken(count: usize, take: impl FnOnce(&mut [u8], &mut usize) -> u8) -> Result
     Ok(Some(packet))
 }
 
-/// Yields on request what a call takes out, until there is no more; a refusal is the last item.
+/// Yields what a call takes out of a node, one item on each request, until none is left. A refusal is the last item.
 fn one_by_one<'n, T: 'n>(
     mut take: impl FnMut() -> Result<Option<T>, LinkFault> + 'n,
 ) -> impl FusedIterator<Item = Result<T, LinkFault>> + 'n {

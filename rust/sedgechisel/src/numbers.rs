@@ -118,8 +118,8 @@ mod tests {
         }
     }
 
-    /// Each number below 253 has the library's word here. The library has two more words, for faults that no call for C
-    /// returns. The numbers from 253 on are those that all kinds of calls share, which have no word.
+    /// Each number below 253 has the same name here as in the library. The library has two more names, for faults that
+    /// no call for C returns. The numbers from 253 on are common to all kinds of calls, and have no name there.
     #[test]
     fn names_are_those_of_the_library() {
         macro_rules! compare {
@@ -147,7 +147,7 @@ mod tests {
         }
     }
 
-    /// The texts of a call of the header of texts, each by its number.
+    /// The texts of a call in sedgechisel_faults.h. Each begins with its number.
     fn texts(call: &str) -> Vec<String> {
         let header = include_str!("../c/sedgechisel_faults.h");
         let (_, after) = header.split_once(&std::format!("*sedge_{call}_text(")).unwrap();

@@ -185,7 +185,8 @@ impl Pointer {
         }
     }
 
-    /// The number. A place whose number has another meaning becomes the one below these; all are after any data.
+    /// The number in the library. Places from 2,046 on become 2,045: 2,046 and 2,047 have other meanings, and all these
+    /// places are after any data.
     fn raw(self) -> u16 {
         match self {
             Self::At(place) => place.min(ffi::SEDGE_POINTER_ONLY_IDLE - 1),

@@ -115,8 +115,8 @@ pub struct TmExtractor<'m> {
 }
 
 impl<'m> TmExtractor<'m> {
-    /// A number of octets of memory that is enough for all packets: the octets of the longest packet and of the longest
-    /// data of a frame together.
+    /// The number of octets of memory that is enough for all packets: those of the longest packet and of the longest
+    /// data field together.
     pub const ENOUGH: usize = 67_578;
 
     /// Begins an extractor that has seen no frame. The memory is large enough if it has as many octets as the longest
@@ -228,9 +228,9 @@ impl<'m> TmExtractor<'m> {
     }
 }
 
-/// The record of a frame: in three octets, the lowest one first, the length of the packet that the frame ends; in two
-/// octets, where the packets in its data begin; its fault; how many frames are missing before it; whether it is the
-/// first, and whether a packet is dropped; and its fields.
+/// The record of a frame: the length of the packet that the frame ends, in three octets, the lowest one first; where
+/// the packets in its data begin, in two octets; its fault; how many frames are missing before it; in one octet, whether
+/// it is the first, and whether a packet is dropped; and its fields.
 fn record_of(frame: &ffi::TmFrame, fault: u8, taken: &ffi::TmExtracted, dropped: bool) -> [u8; RECORD] {
     let [c0, c1, c2, _] = (taken.joined as u32).to_le_bytes();
     let [f0, f1] = (taken.packets.from as u16).to_le_bytes();
@@ -258,7 +258,7 @@ impl Begun {
     }
 
     /// Whether a frame that was taken drops this packet, and the packet is not idle (docs/PROFILE.md, "Extraction", 1
-    /// to 4). `left` is the number of octets, after the frame, of a packet that has not ended.
+    /// to 4). `left` is how many octets of a packet that has not ended are kept after the frame.
     fn is_dropped(&self, frame: &ffi::TmFrame, data: &[u8], taken: &ffi::TmExtracted, left: usize) -> bool {
         let goes_on = frame.pointer == ffi::SEDGE_POINTER_NO_START && left > 0;
         if self.count == 0 || taken.joined > 0 || goes_on {

@@ -340,8 +340,8 @@ pub fn sim_step(
 
 // ---- tools/bindings makes what follows of the exports of the library. ----
 
-// SAFETY: these are the library's calls with their types. One without the address of octets asks nothing of its caller
-// but references, and so is safe.
+// SAFETY: these are the library's calls with their types. A call without the address of octets requires only references
+// from its caller, so it is safe.
 #[rustfmt::skip]
 unsafe extern "C" {
     pub safe fn sedge_config_default(config: &mut Config);
@@ -417,83 +417,83 @@ unsafe extern "C" {
 }
 
 pub fn ground_submit(ground: &mut Ground, map: u8, octets: &[u8]) -> u8 {
-    // SAFETY: each pointer to octets and the count after it are those of one slice; the others are references.
+    // SAFETY: each pointer to octets and the count after it come from one slice; all other pointers are references.
     unsafe { sedge_ground_submit(ground, map, octets.as_ptr(), octets.len()) }
 }
 
 pub fn ground_bypass(ground: &mut Ground, map: u8, octets: &[u8]) -> u8 {
-    // SAFETY: each pointer to octets and the count after it are those of one slice; the others are references.
+    // SAFETY: each pointer to octets and the count after it come from one slice; all other pointers are references.
     unsafe { sedge_ground_bypass(ground, map, octets.as_ptr(), octets.len()) }
 }
 
 pub fn ground_pull(ground: &mut Ground, out: &mut [u8], count: &mut usize) -> u8 {
-    // SAFETY: each pointer to octets and the count after it are those of one slice; the others are references.
+    // SAFETY: each pointer to octets and the count after it come from one slice; all other pointers are references.
     unsafe { sedge_ground_pull(ground, out.as_mut_ptr(), out.len(), count) }
 }
 
 pub fn ground_peek(ground: &mut Ground, out: &mut [u8], count: &mut usize) -> u8 {
-    // SAFETY: each pointer to octets and the count after it are those of one slice; the others are references.
+    // SAFETY: each pointer to octets and the count after it come from one slice; all other pointers are references.
     unsafe { sedge_ground_peek(ground, out.as_mut_ptr(), out.len(), count) }
 }
 
 pub fn ground_telemetry(ground: &mut Ground, octets: &[u8], heard: &mut Heard) -> u8 {
-    // SAFETY: each pointer to octets and the count after it are those of one slice; the others are references.
+    // SAFETY: each pointer to octets and the count after it come from one slice; all other pointers are references.
     unsafe { sedge_ground_telemetry(ground, octets.as_ptr(), octets.len(), heard) }
 }
 
 pub fn ground_clcw(ground: &mut Ground, octets: &[u8], heard: &mut Heard) -> u8 {
-    // SAFETY: each pointer to octets and the count after it are those of one slice; the others are references.
+    // SAFETY: each pointer to octets and the count after it come from one slice; all other pointers are references.
     unsafe { sedge_ground_clcw(ground, octets.as_ptr(), octets.len(), heard) }
 }
 
 pub fn ground_clcw_in(ground: &mut Ground, octets: &[u8], word: &mut Clcw) -> u8 {
-    // SAFETY: each pointer to octets and the count after it are those of one slice; the others are references.
+    // SAFETY: each pointer to octets and the count after it come from one slice; all other pointers are references.
     unsafe { sedge_ground_clcw_in(ground, octets.as_ptr(), octets.len(), word) }
 }
 
 pub fn ground_take_telemetry(ground: &mut Ground, out: &mut [u8], count: &mut usize) -> u8 {
-    // SAFETY: each pointer to octets and the count after it are those of one slice; the others are references.
+    // SAFETY: each pointer to octets and the count after it come from one slice; all other pointers are references.
     unsafe { sedge_ground_take_telemetry(ground, out.as_mut_ptr(), out.len(), count) }
 }
 
 pub fn spacecraft_receive(spacecraft: &mut Spacecraft, octets: &[u8], received: &mut Received) -> u8 {
-    // SAFETY: each pointer to octets and the count after it are those of one slice; the others are references.
+    // SAFETY: each pointer to octets and the count after it come from one slice; all other pointers are references.
     unsafe { sedge_spacecraft_receive(spacecraft, octets.as_ptr(), octets.len(), received) }
 }
 
 pub fn spacecraft_take(spacecraft: &mut Spacecraft, map: &mut u8, out: &mut [u8], count: &mut usize) -> u8 {
-    // SAFETY: each pointer to octets and the count after it are those of one slice; the others are references.
+    // SAFETY: each pointer to octets and the count after it come from one slice; all other pointers are references.
     unsafe { sedge_spacecraft_take(spacecraft, map, out.as_mut_ptr(), out.len(), count) }
 }
 
 pub fn spacecraft_take_bypass(
     spacecraft: &mut Spacecraft, map: &mut u8, out: &mut [u8], count: &mut usize,
 ) -> u8 {
-    // SAFETY: each pointer to octets and the count after it are those of one slice; the others are references.
+    // SAFETY: each pointer to octets and the count after it come from one slice; all other pointers are references.
     unsafe { sedge_spacecraft_take_bypass(spacecraft, map, out.as_mut_ptr(), out.len(), count) }
 }
 
 pub fn spacecraft_telemetry(spacecraft: &mut Spacecraft, packet: &[u8]) -> u8 {
-    // SAFETY: each pointer to octets and the count after it are those of one slice; the others are references.
+    // SAFETY: each pointer to octets and the count after it come from one slice; all other pointers are references.
     unsafe { sedge_spacecraft_telemetry(spacecraft, packet.as_ptr(), packet.len()) }
 }
 
 pub fn spacecraft_telemetry_frame(spacecraft: &mut Spacecraft, out: &mut [u8], count: &mut usize) -> u8 {
-    // SAFETY: each pointer to octets and the count after it are those of one slice; the others are references.
+    // SAFETY: each pointer to octets and the count after it come from one slice; all other pointers are references.
     unsafe { sedge_spacecraft_telemetry_frame(spacecraft, out.as_mut_ptr(), out.len(), count) }
 }
 
 pub fn sim_octets(sim: &mut Sim, out: &mut [u8], count: &mut usize) -> u8 {
-    // SAFETY: each pointer to octets and the count after it are those of one slice; the others are references.
+    // SAFETY: each pointer to octets and the count after it come from one slice; all other pointers are references.
     unsafe { sedge_sim_octets(sim, out.as_mut_ptr(), out.len(), count) }
 }
 
 pub fn sim_submission(sim: &mut Sim, k: usize, map: &mut u8, out: &mut [u8], count: &mut usize) -> u8 {
-    // SAFETY: each pointer to octets and the count after it are those of one slice; the others are references.
+    // SAFETY: each pointer to octets and the count after it come from one slice; all other pointers are references.
     unsafe { sedge_sim_submission(sim, k, map, out.as_mut_ptr(), out.len(), count) }
 }
 
 pub fn sim_entry(sim: &mut Sim, record: u8, map: u8, k: usize, out: &mut [u8], count: &mut usize) -> u8 {
-    // SAFETY: each pointer to octets and the count after it are those of one slice; the others are references.
+    // SAFETY: each pointer to octets and the count after it come from one slice; all other pointers are references.
     unsafe { sedge_sim_entry(sim, record, map, k, out.as_mut_ptr(), out.len(), count) }
 }

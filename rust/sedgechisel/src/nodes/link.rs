@@ -104,7 +104,7 @@ impl fmt::Debug for Link {
     }
 }
 
-/// The fault with which a node refuses, or the one for out of memory.
+/// The result of an event: the fault with which a node refuses, or `memory` if memory runs out.
 fn refusal<F>(reply: Result<raw::Reply, SimFault>, of: fn(u8) -> F, memory: F) -> Result<(), F> {
     match reply {
         Ok(reply) if reply.kind == raw::SEDGE_REPLY_REFUSED => Err(of(reply.fault)),
@@ -132,7 +132,7 @@ impl Link {
         Ok(reply)
     }
 
-    /// The event of a directive, which always happens.
+    /// Gives the sender a directive. The event always happens, even if the sender refuses the directive.
     fn direct(&mut self, directive: u8, value: u16) -> Result<(), CopFault> {
         let mut reply = raw::Reply::default();
         let own = (directive, value);
@@ -143,8 +143,8 @@ impl Link {
         }
     }
 
-    /// An event that returns a frame or a packet of at most `most` octets; it happens if there is room for them. They
-    /// are returned in a buffer of exactly their length, if there is memory for that too.
+    /// An event that returns a frame or a packet of at most `most` octets. It happens only if memory for these can be
+    /// reserved. The octets are returned in a buffer of exactly their length, if there is memory for that too.
     fn given(&mut self, most: usize, kind: u8) -> Result<Option<(u8, Vec<u8>)>, SimFault> {
         let mut room = Vec::new();
         room.try_reserve_exact(most).map_err(|_| SimFault::Memory)?;
