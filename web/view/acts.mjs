@@ -46,7 +46,7 @@ async function goTo(hash, what, holds) {
     if (location.hash === hash) history.replaceState(null, '', '#');
     const isChanged = new Promise((end) => { addEventListener('hashchange', end, { once: true }); });
     location.hash = hash;
-    await isChanged; // (the page may already be as wanted, and begins all the same)
+    await isChanged; // (the page begins again even if it already is as wanted)
     const example = hash.match(/example=(\w+)/)?.[1] ?? '';
     await until(what, () => (hash.startsWith('#packed=%') || at('example').value === example) && holds());
 }
@@ -481,7 +481,7 @@ async function large() {
     await own();
 }
 
-// 8: how the page looks and sounds.
+// 8: how the page looks, and what a screen reader finds.
 
 function luminance(colour) {
     const it = colour.length === 4 ? colour.replace(/[^#]/g, '$&$&') : colour;

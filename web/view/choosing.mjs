@@ -1,5 +1,5 @@
-// Chooses the managed parameters (docs/CHOOSING.md): its formulas, and runs of the module's ground and spacecraft over
-// a link that loses frames, as in bench/choose.
+// The choice of managed parameters: the formulas of docs/CHOOSING.md, and runs of the module's ground and spacecraft
+// over a link that loses frames, as in bench/choose.
 import { defaults } from '../calls.mjs';
 import { numbers as n } from '../sedgechisel.mjs';
 
@@ -117,7 +117,7 @@ class Run {
         while (this.calls.sedge_spacecraft_take(this.board, {}, this.out, this.count) === 0 && this.count.value > 0) this.taken++;
     }
 
-    // Returns seconds, frames and alerts once all packets are acknowledged, or null if that never happens.
+    // Returns seconds, frames and alerts once all packets are acknowledged; null after too many events or alerts.
     result() {
         this.calls.sedge_ground_directive(this.ground, n.SEDGE_INIT_UNLOCK, 0);
         this.later(0, 'clcw');

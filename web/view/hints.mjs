@@ -4,12 +4,11 @@ import { digitsOf } from '../link.mjs';
 import { frameName, frameWords, reportName, reportWords, valueWords } from './words.mjs';
 
 export const FARM_MODES = ['Open', 'Wait', 'Lockout'];
-const LONGEST = 240, FARTHEST = 1000; // letters of a hint, and steps back to what led to another
+const LONGEST = 240, FARTHEST = 1000; // letters of a part of a tooltip, and steps searched for a cause
 
 const cut = (text) => (text.length > LONGEST ? `${text.slice(0, LONGEST)}..` : text);
 
-// Returns the last step, at or before `from`, for which `holds` is true, if `lasts` is true from there on; otherwise
-// -1.
+// Searches back from the step `from` for one for which `holds` is true, while `lasts` is. Returns its index, or -1.
 function lastOf(steps, from, holds, lasts) {
     for (let k = from; k >= Math.max(0, from - FARTHEST) && lasts(steps[k]); k--) if (holds(steps[k])) return k;
     return -1;

@@ -70,7 +70,7 @@ export class Machines {
     }
 
     // Takes an event: `sent` is the frame that it sent, `word` the CLCW of the frame that came down. Returns the rows
-    // that were taken, of the sender (fop) and of the receiver (farm).
+    // that applied, of the sender (fop) and of the receiver (farm).
     step(event, reply, sent, word, outstanding) {
         const { fop, calls } = this, rows = reply.kind === undefined ? {} : this.act(event, reply, sent, word);
         if (fop.state !== n.SEDGE_FOP_S6 && fop.waiting === 0 && outstanding > fop.sent) calls.sedge_fop_submit(fop);

@@ -5,7 +5,7 @@ import { numbers as n } from '../sedgechisel.mjs';
 import { eventOf } from '../link.mjs';
 import { Player } from './player.mjs';
 
-const ROUNDS = 64, MOST = 5000; // rounds, and lines, that are added at most
+const ROUNDS = 64, MOST = 5000; // the maximum number of rounds, and of lines added
 
 // Plays lines one after another on its own link, and keeps those that do something.
 class Planner {
@@ -26,7 +26,8 @@ class Planner {
         return first < next;
     }
 
-    // Adds a line, unless it does nothing or is refused. Returns whether it was added; if not, nothing has changed.
+    // Adds a line, unless it does nothing, or is refused and was not before. Returns whether it was added; if not,
+    // nothing has changed.
     add(line, wasRefused = false) {
         const [way] = line.split(' '), isEmpty = (way === 'up' || way === 'down') && !this.isWaiting(way);
         if (isEmpty || this.added === MOST) return false;

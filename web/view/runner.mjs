@@ -9,7 +9,7 @@ async function moduleOf(text) {
     return WebAssembly.compile(await new Response(whole).arrayBuffer());
 }
 
-let compiled; // by the first run, for all
+let compiled; // by the first run, for all runs
 
 // Returns an address for a program that the page contains.
 const addressOf = (text) => URL.createObjectURL(new Blob([text], { type: 'text/javascript' }));

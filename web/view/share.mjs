@@ -1,6 +1,6 @@
 // What is shown, as an address, as a file and as a picture.
-const LONGEST_PLAIN = 600; // characters of a script that stays readable in an address
-export const LONGEST_ADDRESS = 30000; // characters that programs that pass addresses on are known to take
+const LONGEST_PLAIN = 600; // characters of an address in which a script stays readable, at most
+export const LONGEST_ADDRESS = 30000; // characters of an address that other programs are known to pass on
 
 const through = (octets, stream) => new Response(new Blob([octets]).stream().pipeThrough(stream)).arrayBuffer();
 
