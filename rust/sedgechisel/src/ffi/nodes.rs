@@ -334,7 +334,7 @@ pub fn sim_step(
     sim: &mut Sim, kind: u8, map: u8, (directive, value): (u8, u16), octets: &[u8], reply: &mut Reply,
 ) -> u8 {
     let event = Event { kind, map, directive, value, octets: octets.as_ptr(), count: octets.len() };
-    // SAFETY: the address of octets and their number are those of one slice.
+    // SAFETY: the address of octets and their number come from one slice.
     unsafe { sedge_sim_step(sim, &event, reply) }
 }
 
