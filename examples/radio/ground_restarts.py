@@ -36,7 +36,9 @@ class Store:
 
     def append(self, lines):
         if lines:
-            self.file.write("".join(f"{it}\n" for it in lines).encode())
+            octets = "".join(f"{it}\n" for it in lines).encode()
+            if self.file.write(octets) != len(octets):
+                raise SystemExit(f"ground: {self.file.name} has no room; at the next start its last line is cut off")
             os.fsync(self.file.fileno())
             self._know(lines)
 
