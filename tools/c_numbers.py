@@ -1,5 +1,6 @@
 """Replaces numbers in the statements of a call by their names in the headers, for tools/portable_c."""
 import functools
+import itertools
 import re
 
 from exports import exports_of, structs
@@ -31,6 +32,13 @@ def known_by_name(name):
 
 
 @functools.cache
+def bits():
+    """Of each field of a struct whose bits have names these, by the struct and the field."""
+    found = re.findall(r"as bits of sedge_(\w+)\.(\w+)[^/]*\*/\nenum sedge_(\w+) \{", headers())
+    return {(struct, field): known_by_name(name) for struct, field, name in found}
+
+
+@functools.cache
 def enumerated():
     """Of each field of a struct that holds a number of an enumeration their names, by the struct and the field."""
     return field_names(headers(), structs())
@@ -45,6 +53,14 @@ def replaced(text, before, names, after=""):
 
     number = r"(?P<number>0x[0-9a-f]+|\d+)U?"
     return re.sub(rf"(?P<before>{before}){number}(?P<after>{after})(?![\w.])", named, text, flags=re.M)
+
+
+def replaced_arms(text, before, names):
+    """The same of a number, or of those of a choice, from a pattern to the end of a statement."""
+    test = rf"{before}\([^?]*\) \? "
+    text = replaced(text, before, names, ";")
+    text = replaced(text, test, names, r" : [^?:]+;")
+    return replaced(text, rf"{test}[^?:]+ : ", names, ";")
 
 
 def only_answered(text):
@@ -65,12 +81,25 @@ def with_answers(call, body):
     only answered."""
     text, names = "\n".join(body), answers().get(call, {})
     text = re.sub(r"\breturn (\d+)U & 255U;", r"return \1;", text)
-    text = replaced(text, r"\breturn ", names, ";")
-    text = replaced(text, r"\breturn \(.*\) \? ", names, r" : \w+;")
-    text = replaced(text, r"\breturn \(.*\) \? \w+ : ", names, ";")
+    text = replaced_arms(text, r"\breturn ", names)
     for it in only_answered(text) if names else ():
-        text = replaced(text, rf"\b{it} = ", names, ";")
+        text = replaced_arms(text, rf"\b{it} = ", names)
     return text.split("\n")
+
+
+def with_whole(text, field, names):
+    """The text with the name of what a field of an octet is, as a comment where so much less than the field is compared
+    with a number."""
+    for less, own, count in re.findall(rf"^ +(\w+) = ({field}(?:_\d+)?) - (\d+);$", text, re.M):
+
+        def named(it, count=int(count)):
+            name = names.get(int(it[1]) + count)
+            return f"{it[0]} /* {name} */" if name else it[0]
+
+        is_octet = re.search(rf"^ +{own} = get8\(", text, re.M)
+        if is_octet and all(len(re.findall(rf"^ *{it} = ", text, re.M)) == 1 for it in (less, own)):
+            text = re.sub(rf"\({less} & 255\) [!=]= (\d+)\b", named, text)
+    return text
 
 
 def with_fields(fields, body):
@@ -78,10 +107,32 @@ def with_fields(fields, body):
     after it, and where one is read or put."""
     text = "\n".join(body)
     for field, names in fields.items():
-        own = rf"(?:new_)?{field}(?:_\d+)?"
-        text = replaced(text, rf"^ +{own} = |(?<![\w.]){own} [=!]= |/\* {field} \*/\) [=!]= ", names)
+        text = with_whole(text, field, names)
+        own = rf"(?:new_)?{field}(?:_now)?(?:_\d+)?"
+        text = replaced_arms(text, rf"^ +{own} = ", names)
+        text = replaced(text, rf"(?<![\w.]){own} [=!]= |/\* {field} \*/\) [=!]= ", names)
         text = replaced(text, rf"/\* {field} \*/, ", names, r"\)")
         for it in reversed([*re.finditer(rf"^( +)switch \({own}(?: & 255)?\) \{{\n.*?^\1\}}", text, re.M | re.S)]):
             cases = replaced(it[0], rf"^{it[1]}case ", names, ":")
             text = text[: it.start()] + cases + text[it.end() :]
+    return text.split("\n")
+
+
+def masks(names):
+    """The numbers that have some of these bits alone, each with their names."""
+    parts = (its for count in range(1, len(names) + 1) for its in itertools.combinations(names, count))
+    return {sum(its): " | ".join(names[it] for it in its) for its in parts}
+
+
+def with_bits(fields, body):
+    """The statements with the names of the bits of these fields, each with its names: where one is looked at in such a
+    field or in a variable that is named after it, and in what is put there."""
+    text = "\n".join(body)
+    for field, names in fields.items():
+        own = rf"\b(?:{field}(?:_\d+)?|get8\([^()]*/\* {field} \*/\)) & "
+        its = {number: f"({it})" if "|" in it else it for number, it in masks(names).items()}
+        text = replaced(text, own, its)
+        text = replaced(text, rf"{own}[\w| ()]+\) [!=]= ", its)
+        put = re.compile(rf"\bput8\([^()]*/\* {field} \*/, .*;")
+        text = put.sub(lambda it, its=its: replaced(it[0], r"[?:] ", its), text)
     return text.split("\n")

@@ -19,7 +19,7 @@ import struct
 import textwrap
 
 from c_flow import Node, shown, simplified, texts
-from c_variables import with_own_variables
+from c_variables import shortened, with_own_variables
 from wasm_object import Reader, Refused
 
 I32, I64, F64 = 0x7F, 0x7E, 0x7C
@@ -735,17 +735,29 @@ class Translation:
         names = ", ".join(f"{C_TYPES[kind]} {name}" for name, kind in self.locals[: len(self.function.params)])
         return f"static {result} {self.program.name_of(self.function)}({names or 'void'})"
 
+    def params(self):
+        return [name for name, _ in self.locals[: len(self.function.params)]]
+
+    def names(self):
+        """What each variable of the machine's holds before the function begins."""
+        kinds = {**dict(self.locals), **self.kinds}
+        return {**dict.fromkeys(kinds, "zero"), **dict.fromkeys(self.kinds, ""), **dict.fromkeys(self.params(), "argument")}
+
+    def shortened(self, items=None):
+        """The function's statements, or others, without those that a reader does not need."""
+        items = simplified(self.items if items is None else items)
+        return shortened(items, self.names(), self.program.fields(self.function))
+
     def lines(self, items=None):
         """The function's lines; those of other statements than its own where these are given."""
-        items = simplified(self.items if items is None else items)
-        params = [name for name, _ in self.locals[: len(self.function.params)]]
-        kinds = {**dict(self.locals), **self.kinds}
+        params, kinds = self.params(), {**dict(self.locals), **self.kinds}
         if self.program.header:
-            names = {**dict.fromkeys(kinds, "zero"), **dict.fromkeys(self.kinds, ""), **dict.fromkeys(params, "argument")}
+            items = self.shortened(items)
             fields = self.program.fields(self.function)
-            items, found = with_own_variables(items, names, self.program.taken, fields)
+            items, found = with_own_variables(items, self.names(), self.program.taken, fields)
             items, kinds = simplified(items), {name: (kinds[was], is_zero) for name, (was, is_zero) in found.items()}
         else:
+            items = simplified(self.items if items is None else items)
             kinds = {name: (kind, name not in self.kinds) for name, kind in kinds.items() if name not in params}
         body = self.finished(shown(items, 1))
         if any(TABLE in it for it in body):

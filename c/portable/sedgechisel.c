@@ -12,9 +12,10 @@
  * with file and line; comments in a call name the fields of the structs that it is given.
  *
  * No function writes a parameter: what a parameter x becomes is x_now. A variable has the name of the field that it is
- * read from, or new_ and the name of the field that it is written to; others are v2 on, or t1 on. Parameters without a
- * name in the source are p0 on. Numbers that a call answers, and those of fields, have their names in the headers.
- * Nothing here is static that a program writes, and nothing is allocated.
+ * read from, and is not written again: what a field x becomes is new_x where it is written to the field, and x_now
+ * elsewhere. The variable answer is what a call returns; others are v2 on, or t1 on. Parameters without a name in the
+ * source are p0 on. Numbers that a call answers, and those of fields, have their names in the headers, and so have the
+ * bits of CLCWs. Nothing here is static that a program writes, and nothing is allocated.
  *
  * A comment next to a branch of FOP-1 or FARM-1 names the rules of docs/PROFILE.md that take it, as report 5, or the
  * events of FARM-1's table, as E3. They were found by running all rules in all states (tools/c_rules.py). */
@@ -828,7 +829,6 @@ static uint32_t octets_frame_check_check(uint64_t p0, uint64_t p1)
     if (p1_now != 1) {
         v5 = p1_now & 1;
         v6 = p1_now & ~1ULL;
-        v4 = 0;
         do {
             v7 = p0_now + v4;
             v8 = get16((((uint64_t)(get8(v7) ^ (v2 >> 8)) & 255) << 1) + address(sedge_fecf_tables));
@@ -852,7 +852,6 @@ static uint32_t octets_frame_check_check(uint64_t p0, uint64_t p1)
     if (p1 != 1) {
         v5 = p1 & 1;
         v6 = p1 & ~1ULL;
-        v4 = 0;
         do {
             v7 = p0 + v4;
             v3 = get16((((uint64_t)(get8(v7) ^ (v2 >> 8)) & 255) << 1) + address(sedge_fecf_tables));
@@ -1350,7 +1349,6 @@ static uint64_t map_service_cutting_group_len(uint64_t p0, uint64_t p1, uint64_t
     v7 = p1 - v4;
     if (v7 >= 6) {
         v8 = p0 + v4;
-        v6 = 0;
         do {
             v9 = get8(v8);
             if (v9 > 31 || ((v9 & 8) != 0 && (((v9 << 8) & 0x700) | get8(v8 + 1)) == 0x7ff)) {
@@ -1575,7 +1573,6 @@ static void tm_link_decoding_fields_of(uint64_t p0, uint64_t p1, uint64_t p2, ui
         break;
     case 2047:
         v7 = 1;
-        v8 = 0;
         break;
     default:
         v7 = 0;
@@ -1740,7 +1737,6 @@ static uint32_t sedgechisel_telemetry_extractor_sedge_tm_extractor_frame(uint64_
         break;
     case 2047:
         v8 = 1;
-        v13 = p3;
         break;
     default:
         v13 = (uint64_t)v14;
@@ -1836,7 +1832,6 @@ l16:;
         if (v11 >= 4) {
             v31 = p4 + v10;
             v20 = v11 & ~3ULL;
-            v30 = 0;
             do {
                 v32 = p4 + v30;
                 v33 = v31 + v30;
@@ -1935,7 +1930,6 @@ static void sedgechisel_telemetry_extractor_start(uint64_t p0, uint64_t p1, uint
         if ((p2 - 1) >= 3) {
             v7 = p7 + p1;
             v8 = p2 & ~3ULL;
-            v6 = 0;
             do {
                 v18 = p7 + v6;
                 v19 = v7 + v6;
@@ -2210,12 +2204,12 @@ static void sedge_cop_fault_name_at(uint64_t result, uint32_t fault)
     v7 = 0;
     switch (fault & 255) {
     case 1:
-        goto l1;
+        break;
     case 2:
         v4 = 0x646e6957;
         v7 = 119;
         v5 = 111;
-        goto l2;
+        break;
     case 3:
         v4 = 0x696d694c;
         v5 = 116;
@@ -2228,27 +2222,24 @@ static void sedge_cop_fault_name_at(uint64_t result, uint32_t fault)
         v4 = 0x6f6d654d;
         v7 = 121;
         v5 = 114;
-        goto l2;
+        break;
     case 6:
         v4 = 0x4f746f4e;
         v7 = 101;
         v5 = 112;
         v6 = 110;
-        goto l1;
+        break;
     case 7:
         v4 = 0x79737542;
-        v6 = 0;
-        v3 = 0;
         v5 = 0;
-        v7 = 0;
-        goto l1;
+        break;
     case 8:
         v4 = 0x6e6f7257;
         v7 = 83;
         v5 = 103;
         v3 = 0x657461;
         v6 = 116;
-        goto l1;
+        break;
     case 9:
         v4 = 0x74617453;
         v5 = 101;
@@ -2258,14 +2249,6 @@ static void sedge_cop_fault_name_at(uint64_t result, uint32_t fault)
         v5 = 0;
         break;
     }
-    v6 = 0;
-    v3 = 0;
-    v7 = 0;
-    goto l1;
-l2:;
-    v6 = 0;
-    v3 = 0;
-l1:;
     put16(result + 7, v3);
     put8(result + 6, v6);
     put8(result + 5, v7);
@@ -2384,15 +2367,15 @@ static uint32_t sedge_farm_control_word_at(uint64_t farm, uint32_t vcid, uint64_
     put8(word + 3 /* farm_b */, farm_b);
     put8(word + 1 /* vcid */, vcid);
     put8(word /* status */, 0);
-    put8(word + 2 /* flags */, (((wait == 1) ? 16U : 0U) | ((lockout == 1) ? 32U : 0U)) | ((retransmit != 1) ? 0U :
-        8U));
+    put8(word + 2 /* flags */, (((wait == 1) ? SEDGE_CLCW_WAIT : 0U) | ((lockout == 1) ? SEDGE_CLCW_LOCKOUT : 0U)) |
+        ((retransmit != 1) ? 0U : SEDGE_CLCW_RETRANSMIT));
     return SEDGE_OK;
 }
 
 /* sedge_farm_open, crates/sedgechisel/src/receiver.rt:34 */
 static uint32_t sedge_farm_open_at(uint64_t farm, uint32_t width, uint32_t vr)
 {
-    uint32_t v3, v2;
+    uint32_t v3, answer;
     v3 = width & 1;
     if ((width & 255) != 0 && v3 == 0) {
         put32(farm + 2 /* lockout, wait, retransmit, farm_b */, 0);
@@ -2400,8 +2383,8 @@ static uint32_t sedge_farm_open_at(uint64_t farm, uint32_t width, uint32_t vr)
         put8(farm /* width */, width);
         return SEDGE_OK;
     }
-    v2 = (v3 != 0) ? 1U : (width | 1);
-    return v2 & 255;
+    answer = (v3 != 0) ? SEDGE_COP_WIDTH : (width | 1);
+    return answer & 255;
 }
 
 /* sedge_farm_released, crates/sedgechisel/src/receiver.rt:100 */
@@ -2451,7 +2434,7 @@ static uint32_t sedge_farm_set_vr_at(uint64_t farm, uint32_t vr)
 /* sedge_farm_state, crates/sedgechisel/src/receiver.rt:127 */
 static uint32_t sedge_farm_state_at(uint64_t farm)
 {
-    uint32_t lockout, wait, retransmit, width, v1;
+    uint32_t lockout, wait, retransmit, width, answer;
     lockout = get8(farm + 2 /* lockout */);
     if (lockout > 1) return SEDGE_DAMAGED;
     wait = get8(farm + 3 /* wait */);
@@ -2461,8 +2444,8 @@ static uint32_t sedge_farm_state_at(uint64_t farm)
         SEDGE_DAMAGED;
     width = get8(farm /* width */);
     if (width == 0 || (width & 1) != 0) return SEDGE_DAMAGED;
-    v1 = (lockout == 1) ? 2U : (uint32_t)(wait == 1);
-    return v1;
+    answer = (lockout == 1) ? SEDGE_FARM_LOCKOUT : (uint32_t)(wait == 1);
+    return answer;
 }
 
 /* sedge_farm_unlock, crates/sedgechisel/src/receiver.rt:83 */
@@ -2640,21 +2623,23 @@ static uint32_t sedge_log_new_record_at(uint64_t out, uint64_t room)
 static uint32_t sedge_log_order_encode_at(uint64_t order, uint32_t apid, uint32_t count, uint64_t out, uint64_t room,
     uint64_t total)
 {
-    uint32_t kind, mark, last, boot, v3;
+    uint32_t kind, mark_now, last_now, last, mark, boot, v3;
     uint64_t v2;
     kind = get8(order + 12 /* kind */);
     switch (kind) {
     case SEDGE_LOG_ORDER_RESTART:
         if (get32(order + 4 /* last */) != 0 || get32(order + 8 /* mark */) != 0) return SEDGE_DAMAGED;
         if ((apid & 0xffff) > 0x7ff) return SEDGE_LOG_FIELD_RANGE;
-        mark = 0;
-        last = 0;
+        mark_now = 0;
+        last_now = 0;
         if ((count & 0xffff) > 0x3fff) return SEDGE_LOG_FIELD_RANGE;
         break;
     case SEDGE_LOG_ORDER_REBUILD:
         if ((apid & 0xffff) > 0x7ff || (count & 0xffff) > 0x3fff) return SEDGE_LOG_FIELD_RANGE;
         last = get32(order + 4 /* last */);
         mark = get32(order + 8 /* mark */);
+        last_now = last;
+        mark_now = mark;
         break;
     default:
         return SEDGE_DAMAGED;
@@ -2662,14 +2647,14 @@ static uint32_t sedge_log_order_encode_at(uint64_t order, uint32_t apid, uint32_
     if (room < 23) return SEDGE_LOG_ROOM;
     boot = get32(order /* boot */);
     v2 = some(out);
-    put8(v2 + 18, mark);
-    put8(v2 + 17, mark >> 8);
-    put8(v2 + 16, mark >> 16);
-    put8(v2 + 15, mark >> 24);
-    put8(v2 + 14, last);
-    put8(v2 + 13, last >> 8);
-    put8(v2 + 12, last >> 16);
-    put8(v2 + 11, last >> 24);
+    put8(v2 + 18, mark_now);
+    put8(v2 + 17, mark_now >> 8);
+    put8(v2 + 16, mark_now >> 16);
+    put8(v2 + 15, mark_now >> 24);
+    put8(v2 + 14, last_now);
+    put8(v2 + 13, last_now >> 8);
+    put8(v2 + 12, last_now >> 16);
+    put8(v2 + 11, last_now >> 24);
     put8(v2 + 10, boot);
     put8(v2 + 6, kind);
     put16(v2 + 4, 0x1000);
@@ -2749,7 +2734,7 @@ static void sedge_log_start_at(uint64_t log, uint64_t first, uint64_t first_coun
 static uint32_t sedge_map_count_at(uint64_t octets, uint64_t count, uint64_t limits, uint64_t segments)
 {
     unsigned char frame_octets[48 + 15];
-    uint32_t part, blocking, v5;
+    uint32_t part, blocking, answer;
     uint64_t v4;
     v4 = aligned(frame_octets);
     put64(v4 + 16, 0);
@@ -2769,8 +2754,8 @@ static uint32_t sedge_map_count_at(uint64_t octets, uint64_t count, uint64_t lim
         put64(segments, get64(v4 + 16));
         return SEDGE_OK;
     }
-    v5 = get8(v4 + 9) + 1;
-    return v5 & 255;
+    answer = get8(v4 + 9) + 1;
+    return answer & 255;
 }
 
 /* sedge_map_fault_name, crates/sedgechisel/src/names.rt:127 */
@@ -2843,7 +2828,7 @@ static uint32_t sedge_map_segment_at(uint64_t octets, uint64_t count, uint64_t l
     uint64_t data)
 {
     unsigned char frame_octets[48 + 15];
-    uint32_t part, blocking, v7, v8;
+    uint32_t part, blocking, answer, v8;
     uint64_t count_now, k_now, v6, v2, v10, v11, v3, v12, v4, v5;
     count_now = count;
     k_now = k;
@@ -2863,8 +2848,8 @@ static uint32_t sedge_map_segment_at(uint64_t octets, uint64_t count, uint64_t l
     v2 = some(octets);
     map_service_cutting_segment_count(v6 + 8, v2, count_now, v6 + 24);
     if (get8(v6 + 8) != 0) {
-        v7 = get8(v6 + 9) + 1;
-        return v7 & 255;
+        answer = get8(v6 + 9) + 1;
+        return answer & 255;
     }
     if (count_now == 0) return SEDGE_ABSENT;
     v10 = (uint64_t)part;
@@ -3062,9 +3047,9 @@ static uint32_t sedge_tc_declared_at(uint64_t octets, uint64_t count, uint32_t c
 /* sedge_tc_decode, crates/sedgechisel/src/command_frame.rt:51 */
 static uint32_t sedge_tc_decode_at(uint64_t octets, uint64_t count, uint32_t checked, uint64_t frame, uint64_t data)
 {
-    uint32_t t1;
-    t1 = sedgechisel_command_frame_sedge_tc_decode(some(octets), count, checked & 1, frame, data);
-    return t1 & 255;
+    uint32_t answer;
+    answer = sedgechisel_command_frame_sedge_tc_decode(some(octets), count, checked & 1, frame, data);
+    return answer & 255;
 }
 
 /* sedge_tc_fault_name, crates/sedgechisel/src/names.rt:97 */
@@ -3093,7 +3078,6 @@ static void sedge_tc_fault_name_at(uint64_t result, uint32_t fault)
     case 4:
         v3 = 0x72617053;
         v4 = 101;
-        v5 = 0;
         goto l1;
     case 5:
         put16(v2 + 14, 0);
@@ -3105,7 +3089,6 @@ static void sedge_tc_fault_name_at(uint64_t result, uint32_t fault)
     case 6:
         v3 = 0x63656843;
         v4 = 107;
-        v5 = 0;
         goto l1;
     case 7:
         v3 = 0x61707942;
@@ -3143,7 +3126,6 @@ static void sedge_tc_fault_name_at(uint64_t result, uint32_t fault)
         break;
     }
     v4 = 0;
-    v5 = 0;
 l1:;
     put32(result + 5, (uint32_t)v5);
     put64(result + 12, 0);
@@ -3174,7 +3156,7 @@ static uint32_t sedge_tm_builder_queue_at(uint64_t builder, uint64_t packet, uin
     room)
 {
     uint32_t v8, v3;
-    uint64_t from, count_2, v2, v9, v10, v11, count_3, v13, v4, v12, v14, v7, v15, v16, v17;
+    uint64_t from, count_2, v2, v9, v10, from_now, count_now, v13, v4, v12, v14, v7, v15, v16, count_3, v17;
     if (get16(builder + 24 /* scid */) > 0x3ff || (get8(builder + 28 /* vcid */) & 255) > 7 || ((get16(builder + 26 /*
         length */) - 16) & 0xffff) > 0x7f0 || get8(builder + 30 /* idle_left */) > 6) return SEDGE_DAMAGED;
     from = get64(builder /* from */);
@@ -3192,19 +3174,18 @@ static uint32_t sedge_tm_builder_queue_at(uint64_t builder, uint64_t packet, uin
     v9 = (memory == 0) ? 0x1000ULL : 0ULL;
     v10 = memory + v9;
     if ((room - (from + count_2)) >= count) {
-        v11 = from;
-        count_3 = count_2;
+        from_now = from;
+        count_now = count_2;
         goto l4;
     }
-    v11 = 0;
-    count_3 = 0;
+    from_now = 0;
+    count_now = 0;
     if (count_2 != 0) {
         v13 = count_2 & 3;
         v4 = 0;
         if (count_2 >= 4) {
             v12 = v10 + from;
             v14 = count_2 & ~3ULL;
-            v4 = 0;
             do {
                 v7 = v10 + v4;
                 v15 = v12 + v4;
@@ -3224,12 +3205,13 @@ static uint32_t sedge_tm_builder_queue_at(uint64_t builder, uint64_t packet, uin
         } while (v13 != 0);
     l7:;
         count_3 = get64(builder + 8 /* count */);
+        count_now = count_3;
     }
     put64(builder /* from */, 0);
 l4:;
-    v17 = v10 + v11 + count_3;
+    v17 = v10 + from_now + count_now;
     if (count != 0) copy(v17, v2, count);
-    put64(builder + 8 /* count */, count_3 + count);
+    put64(builder + 8 /* count */, count_now + count);
     return SEDGE_OK;
 }
 
@@ -3237,7 +3219,7 @@ l4:;
 static uint32_t sedge_tm_decode_at(uint64_t octets, uint64_t count, uint64_t length, uint64_t frame, uint64_t data)
 {
     unsigned char frame_octets[48 + 15];
-    uint32_t new_ocf, new_pointer, new_vc_count, new_mc_count, new_vcid, new_scid, v12;
+    uint32_t new_ocf, new_pointer, new_vc_count, new_mc_count, new_vcid, new_scid, answer;
     uint64_t v5, new_count;
     v5 = aligned(frame_octets);
     put64(v5 + 40, 0);
@@ -3248,8 +3230,8 @@ static uint32_t sedge_tm_decode_at(uint64_t octets, uint64_t count, uint64_t len
     put64(v5, 0);
     tm_link_decoding_decode(v5, some(octets), count, length);
     if (get8(v5) != 0) {
-        v12 = get8(v5 + 1) + 1;
-        return v12 & 255;
+        answer = get8(v5 + 1) + 1;
+        return answer & 255;
     }
     new_ocf = get32(v5 + 40);
     new_count = get64(v5 + 32);
@@ -3284,30 +3266,30 @@ static uint32_t sedge_tm_decode_at(uint64_t octets, uint64_t count, uint64_t len
 static uint32_t sedge_tm_encode_at(uint64_t frame, uint64_t data, uint64_t data_count, uint64_t out, uint64_t room,
     uint64_t total)
 {
-    uint32_t v7, v8, v9, pointer, scid, vcid, mc_count, ocf, v10, v4;
+    uint32_t v7, pointer_now, v9, pointer, scid, vcid, mc_count, ocf, v10, v4;
     uint64_t v13, v14, v15, v16, v17, v2, v18, v3;
     v7 = 1;
-    v8 = 0;
+    pointer_now = 0;
     v9 = 2;
     pointer = get16(frame + 2 /* pointer */);
     switch (pointer) {
     case 2046:
         break;
     case 2047:
-        v7 = 1;
         v9 = 1;
         break;
     default:
         v9 = 0;
         v7 = 0;
-        v8 = pointer;
+        pointer_now = pointer;
         break;
     }
     if ((data_count - 4) > 0x7f0) return SEDGE_TM_FIELD_RANGE;
     scid = get16(frame /* scid */);
     if ((scid & 0xffff) > 0x3ff) return SEDGE_TM_FIELD_RANGE;
     vcid = get8(frame + 4 /* vcid */);
-    if ((vcid & 255) > 7 || (v7 | (uint32_t)(data_count > ((uint64_t)v8 & 0xffff))) != 1) return SEDGE_TM_FIELD_RANGE;
+    if ((vcid & 255) > 7 || (v7 | (uint32_t)(data_count > ((uint64_t)pointer_now & 0xffff))) != 1) return
+        SEDGE_TM_FIELD_RANGE;
     v13 = data_count + 12;
     if (room < v13) return SEDGE_TM_ROOM;
     v14 = (data == 0) ? 0x1000ULL : 0ULL;
@@ -3322,16 +3304,16 @@ static uint32_t sedge_tm_encode_at(uint64_t frame, uint64_t data, uint64_t data_
     v2 = v17 + 6;
     switch (v9) {
     case 1:
-        v8 = 0x7ff;
+        pointer_now = 0x7ff;
         break;
     case 2:
-        v8 = 0x7fe;
+        pointer_now = 0x7fe;
         break;
     default:
         break;
     }
     v18 = v2 + data_count;
-    v10 = v8 + 0x1800;
+    v10 = pointer_now + 0x1800;
     put16(v17 + 4, (v10 << 8) | ((v10 & 0xff00) >> 8));
     if (data_count != 0) copy(v2, v15, data_count);
     put32(v18, ocf);
@@ -3357,12 +3339,12 @@ static void sedge_tm_fault_name_at(uint64_t result, uint32_t fault)
     v6 = 0;
     switch (fault & 255) {
     case 1:
-        goto l1;
+        break;
     case 2:
         v4 = 0x73726556;
         v5 = 0x6f69;
         v6 = 110;
-        goto l1;
+        break;
     case 3:
         v4 = 0x63656843;
         v5 = 107;
@@ -3375,7 +3357,7 @@ static void sedge_tm_fault_name_at(uint64_t result, uint32_t fault)
         v4 = 0x6e696f50;
         v5 = 0x6574;
         v6 = 114;
-        goto l1;
+        break;
     case 6:
         v4 = 0x634f6f4e;
         v5 = 102;
@@ -3389,27 +3371,22 @@ static void sedge_tm_fault_name_at(uint64_t result, uint32_t fault)
         v5 = 0x6150;
         v3 = 0x74656b;
         v6 = 99;
-        goto l1;
+        break;
     case 9:
         v4 = 0x6d6f6f52;
-        v6 = 0;
-        v3 = 0;
         v5 = 0;
-        goto l1;
+        break;
     case 10:
         v4 = 0x6c656946;
         v5 = 0x5264;
         v3 = 0x65676e;
         v6 = 97;
-        goto l1;
+        break;
     default:
         v4 = 63;
         v5 = 0;
         break;
     }
-    v6 = 0;
-    v3 = 0;
-l1:;
     put16(result + 7, v3);
     put8(result + 6, v6);
     put16(result + 4, v5);
@@ -3493,7 +3470,7 @@ static void sedge_version_at(uint64_t result)
 static uint32_t sedge_tc_encode_at(uint64_t frame, uint64_t data, uint64_t data_count, uint32_t checked, uint64_t out,
     uint64_t room, uint64_t total)
 {
-    uint32_t kind, flags, n, v12, v10, v13, map, scid, vcid, v8, v9, v11, v4, v5, v34;
+    uint32_t kind, flags, n, n_now, v12, command, v13, v10, vr, map, scid, vcid, v8, v9, v11, v4, v5, v34;
     uint64_t data_count_now, v2, v16, v3, v17, v18, v6, v19, v21, v20, v22, v23, v24, v25, v26, v27, v28, v29, v30,
         v31, v32, v33;
     data_count_now = data_count;
@@ -3503,29 +3480,29 @@ static uint32_t sedge_tc_encode_at(uint64_t frame, uint64_t data, uint64_t data_
         flags = get8(frame + 5 /* flags */);
         if (flags > 3) return SEDGE_DAMAGED;
         n = get8(frame + 4 /* n */);
+        n_now = n;
         break;
     case SEDGE_TC_BD:
-        n = 0;
+        n_now = 0;
         flags = get8(frame + 5 /* flags */);
         if (flags > 3) return SEDGE_DAMAGED;
         break;
     case SEDGE_TC_BC:
         v12 = 0;
         data_count_now = 0;
-        v10 = get8(frame + 7 /* command */);
-        n = v10;
+        command = get8(frame + 7 /* command */);
+        n_now = command;
         v2 = 0;
-        v13 = v10;
-        switch (v10) {
-        case 0:
+        v13 = command;
+        v10 = command;
+        switch (command) {
+        case SEDGE_UNLOCK:
             goto l2;
-        case 1:
-            v10 = get8(frame + 8 /* vr */);
+        case SEDGE_SET_VR:
+            vr = get8(frame + 8 /* vr */);
             v13 = 0;
-            v2 = 0;
-            n = 1;
-            data_count_now = 0;
-            v12 = 0;
+            n_now = 1;
+            v10 = vr;
             goto l2;
         default:
             return SEDGE_DAMAGED;
@@ -3546,7 +3523,7 @@ l2:;
     v16 = (out == 0) ? 0x1000ULL : 0ULL;
     v3 = out + v16;
     if (kind == SEDGE_TC_BC) {
-        v8 = n & 255;
+        v8 = n_now & 255;
         v17 = ((v8 != 0) ? 4ULL : 2ULL) + (((checked & 1) != 0) ? 6ULL : 4ULL);
         if (room < v17) return SEDGE_TC_ROOM;
         v9 = 0;
@@ -3574,7 +3551,7 @@ l2:;
     v6 = v18 - v2;
     if (kind == SEDGE_TC_AD) {
         put8(v3 + 5, v13);
-        put8(v3 + 4, n);
+        put8(v3 + 4, n_now);
         if (v6 >= data_count_now) {
             if (v4 != 0) goto l9;
             copy(v18, v2, data_count_now);
@@ -3583,7 +3560,6 @@ l2:;
             v21 = 0;
             if (data_count_now >= 4) {
                 v20 = data_count_now & ~3ULL;
-                v21 = 0;
                 do {
                     v22 = v3 + v21;
                     v23 = v2 + v21;
@@ -3614,7 +3590,6 @@ l2:;
             v27 = 0;
             if (data_count_now >= 4) {
                 v28 = data_count_now & ~3ULL;
-                v27 = 0;
                 do {
                     v29 = v3 + v27;
                     v30 = v2 + v27;
@@ -3685,51 +3660,37 @@ static uint32_t sedge_log_done_at(uint64_t log, uint32_t action, uint32_t number
     case 1:
     case 3:
         v9 = 1;
-        v7 = 0;
         v10 = get32(v3 + 112);
         v4 = get64(v3 + 104);
         v11 = get8(v3 + 96);
         v12 = get32(v3 + 92);
         v13 = get32(v3 + 88);
-        v8 = 0;
         v14 = 1;
-        goto l3;
+        break;
     case 2:
     case 4:
         v14 = 2;
         v8 = 1;
-        v7 = 0;
         v10 = get32(v3 + 112);
         v4 = get64(v3 + 104);
         v11 = get8(v3 + 96);
         v12 = get32(v3 + 92);
         v13 = get32(v3 + 88);
         v9 = 1;
-        goto l3;
+        break;
     case 5:
         v5 = get32(v3 + 92) + 1;
         v7 = (v5 != 0) ? v5 : ~0U;
         v14 = 3;
-        v8 = 0;
         v9 = 2;
-        v10 = 0;
-        v11 = 0;
-        v12 = 0;
         break;
     case 7:
         v14 = 4;
         v9 = 3;
-        v12 = 0;
-        v7 = 0;
-        v8 = 0;
-        v10 = 0;
-        v11 = 0;
         break;
     default:
-        goto l3;
+        break;
     }
-    v13 = 0;
-l3:;
     if (number != v7 || (action & 255) != v14) return SEDGE_ABSENT;
     v2 = 3;
     v15 = 0;
@@ -3742,18 +3703,15 @@ l3:;
     switch (v6) {
     case 1:
     case 3:
-        v20 = 0;
         v2 = 1;
         v18 = get32(v3 + 112);
         v15 = get64(v3 + 104);
         v17 = get8(v3 + 96);
         v16 = get32(v3 + 92);
         v19 = get32(v3 + 88);
-        v21 = 0;
-        goto l9;
+        break;
     case 2:
     case 4:
-        v21 = 0;
         v2 = 1;
         v18 = get32(v3 + 112);
         v15 = get64(v3 + 104);
@@ -3761,29 +3719,18 @@ l3:;
         v16 = get32(v3 + 92);
         v19 = get32(v3 + 88);
         v20 = 1;
-        goto l9;
+        break;
     case 5:
         v22 = get32(v3 + 92) + 1;
         v21 = (v22 != 0) ? v22 : ~0U;
         v2 = 2;
-        v19 = 0;
-        v16 = 0;
-        v17 = 0;
-        v18 = 0;
         break;
     case 7:
-        goto l9;
+        break;
     default:
-        v21 = 0;
-        v19 = 0;
-        v16 = 0;
-        v17 = 0;
-        v18 = 0;
         v2 = 0;
         break;
     }
-    v20 = 0;
-l9:;
     if (v9 == v2) {
         switch (v9) {
         case 1:
@@ -3811,8 +3758,8 @@ l15:;
 static uint32_t sedge_log_next_at(uint64_t log, uint64_t out, uint64_t room, uint64_t number)
 {
     unsigned char frame_octets[192 + 15];
-    uint32_t v6, v7, v5, v3, v9;
-    uint64_t v4, v2, v10, v11, v8, v12;
+    uint32_t v6, v7, answer, v5, v3;
+    uint64_t v4, v2, v9, v10, v8, v11;
     v4 = aligned(frame_octets);
     put64(v4 + 40, 0);
     put64(v4 + 32, 0);
@@ -3832,18 +3779,18 @@ static uint32_t sedge_log_next_at(uint64_t log, uint64_t out, uint64_t room, uin
         put64(v4 + 96, get64(v2 + 16));
         put64(v4 + 88, get64(v2 + 8));
         put64(v4 + 80, get64(v2));
-        v5 = SEDGE_LOG_WRITE_FIRST;
+        answer = SEDGE_LOG_WRITE_FIRST;
         break;
     case 2:
     case 4:
         put64(v4 + 96, get64(v2 + 16));
         put64(v4 + 88, get64(v2 + 8));
         put64(v4 + 80, get64(v2));
-        v5 = SEDGE_LOG_WRITE_SECOND;
+        answer = SEDGE_LOG_WRITE_SECOND;
         break;
     case 5:
-        v3 = v6 + 1;
-        put_own32(number, (v3 != 0) ? v3 : ~0U);
+        v5 = v6 + 1;
+        put_own32(number, (v5 != 0) ? v5 : ~0U);
         return SEDGE_LOG_EXECUTE;
     case 7:
         put_own32(number, 0);
@@ -3863,27 +3810,27 @@ static uint32_t sedge_log_next_at(uint64_t log, uint64_t out, uint64_t room, uin
     put64(v4 + 112, 0);
     put64(v4 + 104, 0);
     command_log_record_spelled(v4 + 104, v4 + 48);
-    v9 = get8(v4 + 128);
-    put8(v4 + 160, v9);
-    v10 = get64(v4 + 120);
-    put64(v4 + 152, v10);
-    v11 = get64(v4 + 112);
-    put64(v4 + 144, v11);
+    v3 = get8(v4 + 128);
+    put8(v4 + 160, v3);
+    v9 = get64(v4 + 120);
+    put64(v4 + 152, v9);
+    v10 = get64(v4 + 112);
+    put64(v4 + 144, v10);
     v8 = get64(v4 + 104);
     put64(v4 + 136, v8);
-    put8(v4 + 185, v9);
-    put64(v4 + 177, v10);
-    put64(v4 + 169, v11);
+    put8(v4 + 185, v3);
+    put64(v4 + 177, v9);
+    put64(v4 + 169, v10);
     put64(v4 + 161, v8);
-    v12 = some(out);
-    put16(v12 + 48, get16(v4 + 184));
-    put64(v12 + 40, get64(v4 + 176));
-    put64(v12 + 32, get64(v4 + 168));
-    put64(v12 + 24, get64(v4 + 160));
-    put64(v12 + 16, v10);
-    put64(v12 + 8, v11);
-    put64(v12, v8);
-    return v5;
+    v11 = some(out);
+    put16(v11 + 48, get16(v4 + 184));
+    put64(v11 + 40, get64(v4 + 176));
+    put64(v11 + 32, get64(v4 + 168));
+    put64(v11 + 24, get64(v4 + 160));
+    put64(v11 + 16, v9);
+    put64(v11 + 8, v10);
+    put64(v11, v8);
+    return answer;
 }
 
 /* sedge_log_obey, crates/sedgechisel/src/executor.rt:170 */
@@ -4135,8 +4082,8 @@ l5:;
 static uint32_t sedge_log_status_decode_at(uint64_t octets, uint64_t count, uint64_t status)
 {
     unsigned char frame_octets[128 + 15];
-    uint32_t v5, v4, v11, v10, v6, v12, v13, v7, v8, v9, v18, v19, t2, new_boot, new_last, new_begun, new_history,
-        new_mark;
+    uint32_t v5, v4, v11, v10, v6, v12, v13, new_waiting, new_kind, v9, v18, v19, t2, new_boot, new_last, new_begun,
+        new_history, new_mark;
     uint64_t v3, v2, v17, new_known;
     v3 = aligned(frame_octets);
     if (count != 27) return SEDGE_LOG_LAYOUT;
@@ -4160,24 +4107,24 @@ static uint32_t sedge_log_status_decode_at(uint64_t octets, uint64_t count, uint
         v2 = get64(v3 + 80);
         v12 = get32(v3 + 88);
         v13 = get32(v3 + 92);
-        v7 = get8(v17 + 22);
+        new_waiting = get8(v17 + 22);
         put64(v3 + 96, 0);
         put64(v3 + 104, 0);
         put64(v3 + 109, 0);
-        v8 = 0;
+        new_kind = SEDGE_LOG_STATUS_SAYS;
         v9 = v4;
         goto l3;
     case 1:
     case 2:
         v6 = 0;
         put32(v3 + 60, 0);
-        v7 = get8(v17 + 22);
+        new_waiting = get8(v17 + 22);
         put64(v3 + 96, 0);
         put64(v3 + 104, 0);
         put64(v3 + 109, 0);
         put32(v3 + 123, 0);
         put32(v3 + 120, 0);
-        v8 = v5;
+        new_kind = v5;
         v9 = 0;
         v10 = 0;
         v11 = 0;
@@ -4187,14 +4134,13 @@ static uint32_t sedge_log_status_decode_at(uint64_t octets, uint64_t count, uint
     default:
         v9 = 0;
         put32(v3 + 60, 0);
-        v7 = get8(v17 + 22);
-        v2 = 0;
+        new_waiting = get8(v17 + 22);
         put64(v3 + 96, 0);
         put64(v3 + 104, 0);
         put64(v3 + 109, 0);
         put32(v3 + 123, 0);
         put32(v3 + 120, 0);
-        v8 = 3;
+        new_kind = SEDGE_LOG_STATUS_LOST;
         v6 = v4;
         v10 = 0;
         v11 = 0;
@@ -4215,8 +4161,8 @@ l3:;
     put64(v3 + 51, get64(v3 + 109));
     put64(v3 + 46, get64(v3 + 104));
     put64(v3 + 38, get64(v3 + 96));
-    put8(v3 + 59, v7);
-    put8(v3 + 37, v8);
+    put8(v3 + 59, new_waiting);
+    put8(v3 + 37, new_kind);
     v18 = command_log_crc_check_after(0, v3 + 37, 23);
     v19 = rotl32(v18 & 0xff00ff, 24) | (rotl32(v18, 8) & 0xff00ff);
     put32(v3 + 60, v19);
@@ -4235,19 +4181,14 @@ l3:;
     new_begun = 0;
     new_history = 0;
     new_mark = 0;
-    switch (v8) {
-    case 1:
-    case 2:
+    switch (new_kind) {
+    case SEDGE_LOG_STATUS_CHANGES:
+    case SEDGE_LOG_STATUS_STARTS:
         break;
-    case 3:
-        new_boot = 0;
-        new_last = 0;
-        new_begun = 0;
-        new_history = 0;
+    case SEDGE_LOG_STATUS_LOST:
         new_mark = v6;
         break;
     default:
-        new_mark = 0;
         new_boot = v9;
         new_last = v10;
         new_begun = v11;
@@ -4263,8 +4204,8 @@ l3:;
     put64(status /* kept, kept.known */, new_known);
     put8(status + 23, 0);
     put16(status + 30, 0);
-    put8(status + 29 /* waiting */, v7);
-    put8(status + 28 /* kind */, v8);
+    put8(status + 29 /* waiting */, new_waiting);
+    put8(status + 28 /* kind */, new_kind);
     put32(status + 24 /* mark */, new_mark);
     return SEDGE_OK;
 }
@@ -4292,7 +4233,7 @@ static uint32_t sedge_map_take_at(uint64_t map, uint32_t flags, uint64_t data, u
     put16(v7 + 12, 0);
     put32(v7 + 8, 0);
     v16 = 2;
-    new_dropped = (open != 0) ? 2U : 0U;
+    new_dropped = (open != 0) ? SEDGE_DROPPED_INTERRUPTED : SEDGE_NOT_DROPPED;
     v2 = (room < 0xffffffffULL) ? room : 0xffffffffULL;
     switch ((uint32_t)((uint64_t)flags & 255)) {
     case 1:
@@ -4410,10 +4351,10 @@ l2:;
 static uint32_t sedge_tm_extractor_frame_at(uint64_t extractor, uint64_t frame, uint64_t data, uint64_t data_count,
     uint64_t memory, uint64_t room, uint64_t extracted)
 {
-    uint32_t t1;
-    t1 = sedgechisel_telemetry_extractor_sedge_tm_extractor_frame(extractor, frame, some(data), data_count,
+    uint32_t answer;
+    answer = sedgechisel_telemetry_extractor_sedge_tm_extractor_frame(extractor, frame, some(data), data_count,
         some(memory), room, extracted);
-    return t1 & 255;
+    return answer & 255;
 }
 
 /* sedge_tm_extractor_frames, crates/sedgechisel/src/extracted_frames.rt:33 */
@@ -4424,9 +4365,9 @@ static uint64_t sedge_tm_extractor_frames_at(uint64_t extractor, uint64_t octets
     unsigned char frame_octets[112 + 15];
     uint32_t v22, v35, v46, v31, v29, v23, v34, v30, v28, v27, v26, v25, v24, v41, v40, v39, v6, v7, v8, v9, seen,
         v49, v58, v67, v71;
-    uint64_t v11, v12, v13, v15, v16, v17, v18, v19, v20, v14, v2, v21, v3, v4, v5, v32, v33, from, count_2, v10, v36,
-        v47, v37, v48, v38, v50, v51, v52, v53, v54, v55, v56, v57, v59, v60, v61, v62, v63, v42, v43, v64, v65, v66,
-        v68, v69, v70, v44, v72, v73, v45, v74, v75, v76, v77, v78, v79;
+    uint64_t v11, v12, v13, v15, v16, v17, v18, v19, v20, answer, v2, v21, v3, v4, v5, v32, v33, from, count_2, v10,
+        v36, v47, v37, v48, v38, v50, v51, v52, v53, v54, v55, v56, v57, v59, v60, v61, v62, v63, v42, v43, v64, v65,
+        v66, v68, v69, v70, v44, v72, v73, v45, v74, v75, v76, v77, v78, answer_2;
     v11 = aligned(frame_octets);
     v12 = 0;
     v13 = out_room / 19;
@@ -4440,7 +4381,7 @@ static uint64_t sedge_tm_extractor_frames_at(uint64_t extractor, uint64_t octets
     v18 = some(octets);
     v19 = frame_length - 1;
     v20 = v11 + 62;
-    v14 = 0;
+    answer = 0;
     v2 = 0;
     v21 = 0;
     v3 = 0;
@@ -4448,7 +4389,7 @@ static uint64_t sedge_tm_extractor_frames_at(uint64_t extractor, uint64_t octets
         v4 = packets_room - v3;
         if ((v4 - memory_room) < frame_length || v19 >= (count - v2) || v4 < memory_room) {
             put64(total, v3);
-            return v14;
+            return answer;
         }
         v22 = 0;
         put16(v20 + 8, 0);
@@ -4526,7 +4467,6 @@ static uint64_t sedge_tm_extractor_frames_at(uint64_t extractor, uint64_t octets
             case 2046:
                 goto l7;
             case 2047:
-                v6 = 1;
                 break;
             default:
                 v5 = (uint64_t)v8;
@@ -4547,18 +4487,10 @@ static uint64_t sedge_tm_extractor_frames_at(uint64_t extractor, uint64_t octets
         v9 = 0;
         seen = get8(extractor + 17 /* seen */);
         if (seen > 1) goto l14;
-        v9 = 0;
         from = get64(extractor /* from */);
         if (memory_room < from) goto l14;
-        v9 = 0;
         count_2 = get64(extractor + 8 /* count */);
-        if (count_2 > (memory_room - from)) goto l14;
-        v9 = 0;
-        if (seen != 1) goto l14;
-        v9 = 0;
-        if ((v6 | (uint32_t)(v32 > v5)) == 0) goto l14;
-        v9 = 0;
-        if (count_2 == 0) goto l14;
+        if (count_2 > (memory_room - from) || seen != 1 || (v6 | (uint32_t)(v32 > v5)) == 0 || count_2 == 0) goto l14;
         v9 = 1;
         v10 = v17 + from;
         if ((v25 & 255) != ((get8(extractor + 16 /* last */) + 1) & 255)) {
@@ -4671,7 +4603,6 @@ static uint64_t sedge_tm_extractor_frames_at(uint64_t extractor, uint64_t octets
                 v73 = 0;
                 if (((v69 | (v68 << 8)) + 6) >= 3) {
                     v45 = v70 & 0x1fffc;
-                    v73 = 0;
                     do {
                         v74 = v44 + v73;
                         v75 = v66 + v73;
@@ -4726,18 +4657,19 @@ static uint64_t sedge_tm_extractor_frames_at(uint64_t extractor, uint64_t octets
         put8(v78 + 4, v35);
         put32(v78, v46);
         v21 = v21 + 19;
-        v14 = v14 + 1;
-    } while (v14 != v13);
-    v79 = v13;
+        answer = answer + 1;
+    } while (answer != v13);
+    answer_2 = v13;
     put64(total, v3);
-    return v79;
+    return answer_2;
 }
 
 /* sedge_fop_clcw, crates/sedgechisel/src/sender.rt:115 */
 static uint32_t sedge_fop_clcw_at(uint64_t fop, uint32_t vcid, uint64_t word, uint64_t released)
 {
     uint32_t state, v5, v6, waiting, vr, v9, new_control, control, count, timer, limit, due, sent, room, v4, vs, nn,
-        v19, window, ticks, v2, v3, flags, v22, flags_2, value, v10, v23, v24, new_vr, v8, v25, v26, v27, v28;
+        v19, window, ticks, new_state, new_waiting, new_count, new_due, new_sent, new_nn, new_ticks, v2, v3, flags,
+        answer, flags_2, value, v10, v22, v23, new_vr, v8, v24, v25, v26, v27;
     if (get8(word + 1 /* vcid */) != (vcid & 255)) return SEDGE_ABSENT;
     state = get8(fop + 5 /* state */);
     v5 = state - 1;
@@ -4781,6 +4713,13 @@ static uint32_t sedge_fop_clcw_at(uint64_t fop, uint32_t vcid, uint64_t word, ui
     window = get8(fop + 11 /* window */);
     if (((window - 1) & 255) >= (room & 255)) return SEDGE_DAMAGED;
     ticks = get16(fop + 2 /* ticks */);
+    new_state = state;
+    new_waiting = waiting;
+    new_count = count;
+    new_due = due;
+    new_sent = sent;
+    new_nn = nn;
+    new_ticks = ticks;
     switch (state) {
     case SEDGE_FOP_S2:
     case SEDGE_FOP_S3: /* report 1 to 8 */
@@ -4793,19 +4732,19 @@ static uint32_t sedge_fop_clcw_at(uint64_t fop, uint32_t vcid, uint64_t word, ui
             SEDGE_DAMAGED;
         v3 = 0;
         flags = get8(word + 2 /* flags */);
-        if ((flags & 32) != 0) { /* report 9 */
-            v22 = SEDGE_ALERT_LOCKOUT;
+        if ((flags & SEDGE_CLCW_LOCKOUT) != 0) { /* report 9 */
+            answer = SEDGE_ALERT_LOCKOUT;
             goto l30;
         }
         if (get8(word + 4 /* value */) != (vs & 255)) { /* report 10 */
-            v22 = SEDGE_ALERT_NNR;
+            answer = SEDGE_ALERT_NNR;
             goto l30;
         }
-        if ((flags & 8) != 0) { /* report 11 */
-            v22 = SEDGE_ALERT_SYNCH;
+        if ((flags & SEDGE_CLCW_RETRANSMIT) != 0) { /* report 11 */
+            answer = SEDGE_ALERT_SYNCH;
             goto l30;
         }
-        if ((flags & 16) == 0) goto l7; /* report 13 */
+        if ((flags & SEDGE_CLCW_WAIT) == 0) goto l7; /* report 13 */
         goto l31; /* report 12 */
     case SEDGE_FOP_S5: /* report 14, 15 */
         if ((sent & 255) != (v19 & 255) || (sent & 255) != 0) return SEDGE_DAMAGED;
@@ -4829,134 +4768,131 @@ static uint32_t sedge_fop_clcw_at(uint64_t fop, uint32_t vcid, uint64_t word, ui
     }
     v3 = 0; /* report 1 to 8 */
     flags_2 = get8(word + 2 /* flags */);
-    if ((flags_2 & 32) != 0) { /* report 1 */
-        v22 = SEDGE_ALERT_LOCKOUT;
+    if ((flags_2 & SEDGE_CLCW_LOCKOUT) != 0) { /* report 1 */
+        answer = SEDGE_ALERT_LOCKOUT;
         goto l30;
     }
     value = get8(word + 4 /* value */); /* report 2 to 8 */
     v10 = value - nn;
     if ((v19 & 255) < (v10 & 255)) { /* report 2 */
-        v22 = SEDGE_ALERT_NNR;
+        answer = SEDGE_ALERT_NNR;
         goto l30;
     }
-    if ((flags_2 & 24) != 16) { /* report 4 to 8 */
-        if ((flags_2 & 8) == 0) { /* report 5, 6 */
+    if ((flags_2 & (SEDGE_CLCW_RETRANSMIT | SEDGE_CLCW_WAIT)) != SEDGE_CLCW_WAIT) { /* report 4 to 8 */
+        if ((flags_2 & SEDGE_CLCW_RETRANSMIT) == 0) { /* report 5, 6 */
             if ((nn & 255) == (value & 255)) { /* report 5 */
-                if ((v5 & 255) == 0) {
-                    state = SEDGE_FOP_S1;
+                if ((v5 & 255) == 0 /* SEDGE_FOP_S1 */) {
+                    new_state = SEDGE_FOP_S1;
                     goto l26;
                 }
-                v22 = SEDGE_ALERT_SYNCH;
+                answer = SEDGE_ALERT_SYNCH;
                 goto l30;
             }
             put8(released, v10); /* report 6 */
-            sent = nn - value + sent;
-            v23 = sent & 255;
-            v24 = due & 255;
-            due = (v23 < v24) ? v23 : v24;
+            new_sent = nn - value + sent;
+            v22 = new_sent & 255;
+            v23 = due & 255;
+            new_due = (v22 < v23) ? v22 : v23;
             new_vr = 0;
-            state = SEDGE_FOP_S1;
+            new_state = SEDGE_FOP_S1;
             new_control = SEDGE_CONTROL_IDLE;
-            count = 1;
-            ticks = timer;
-            nn = value;
-            if (v23 != 0) goto l2;
-            new_control = SEDGE_CONTROL_IDLE;
-            count = 1;
-            sent = 0;
-            nn = value;
+            new_count = 1;
+            new_ticks = timer;
+            new_nn = value;
+            if (v22 != 0) goto l2;
+            new_sent = 0;
             goto l5;
         }
         v8 = value & 255; /* report 4, 7, 8 */
         if (v8 == (vs & 255)) { /* report 4 */
-            v22 = SEDGE_ALERT_SYNCH;
+            answer = SEDGE_ALERT_SYNCH;
             goto l30;
         }
-        v25 = flags_2 & 16; /* report 7, 8 */
+        v24 = flags_2 & SEDGE_CLCW_WAIT; /* report 7, 8 */
         if ((nn & 255) == v8) { /* report 8 */
-            v26 = limit & 255;
-            if (v26 == 1) {
-                v22 = SEDGE_ALERT_LIMIT;
+            v25 = limit & 255;
+            if (v25 == 1) {
+                answer = SEDGE_ALERT_LIMIT;
                 goto l30;
             }
-            if (v25 != 0) {
-                state = SEDGE_FOP_S3;
+            if (v24 != 0) {
+                new_state = SEDGE_FOP_S3;
                 goto l26;
             }
-            if ((v5 & 255) != 1 && count < v26) {
-                count = count + 1;
-                due = sent;
+            if ((v5 & 255) != 1 /* SEDGE_FOP_S2 */ && count < v25) {
+                new_count = count + 1;
+                new_due = sent;
                 goto l28;
             }
-            state = SEDGE_FOP_S2;
+            new_state = SEDGE_FOP_S2;
             goto l26;
         }
-        count = 1; /* report 7 */
+        new_count = 1; /* report 7 */
         if ((limit & 255) == 1) {
-            v22 = SEDGE_ALERT_LIMIT;
+            answer = SEDGE_ALERT_LIMIT;
             v3 = v10;
-            nn = value;
+            new_nn = value;
             goto l30;
         }
-        sent = nn - value + sent;
-        count = 2;
-        if (v25 == 0) {
-            due = sent;
-            nn = value;
+        new_sent = nn - value + sent;
+        new_count = 2;
+        if (v24 == 0) {
+            new_due = new_sent;
+            new_nn = value;
             goto l28;
         }
-        v27 = sent & 255;
-        v28 = due & 255;
-        due = (v27 < v28) ? v27 : v28;
-        state = SEDGE_FOP_S3;
-        count = 1;
-        nn = value;
+        v26 = new_sent & 255;
+        v27 = due & 255;
+        new_due = (v26 < v27) ? v26 : v27;
+        new_state = SEDGE_FOP_S3;
+        new_count = 1;
+        new_nn = value;
         goto l26;
     }
 l31:; /* report 3, 12 */
-    v22 = SEDGE_ALERT_CLCW;
+    answer = SEDGE_ALERT_CLCW;
 l30:; /* report 1 to 5, 7 to 12 */
     put8(released, v3);
     new_vr = 0;
-    state = SEDGE_FOP_S6;
+    new_state = SEDGE_FOP_S6;
     new_control = SEDGE_CONTROL_IDLE;
-    due = 0;
-    sent = 0;
-    waiting = 0;
+    new_due = 0;
+    new_sent = 0;
+    new_waiting = 0;
     goto l3;
 l28:; /* report 7, 8 */
     put8(released, v10);
     new_vr = 0;
-    state = SEDGE_FOP_S2;
+    new_state = SEDGE_FOP_S2;
     new_control = SEDGE_CONTROL_IDLE;
-    ticks = timer;
+    new_ticks = timer;
     goto l2;
 l26:; /* report 5, 7, 8 */
     put8(released, v10);
     new_vr = 0;
     new_control = SEDGE_CONTROL_IDLE;
     if ((ticks & 0xffff) != 0) goto l2;
-    new_control = SEDGE_CONTROL_IDLE; /* report 5 */
-    goto l5;
+    goto l5; /* report 5 */
 l8:; /* report 14, 15 */
-    if ((get8(word + 2 /* flags */) & 56) != 0 || get8(word + 4 /* value */) != (vs & 255)) goto l6; /* report 15 */
+    if ((get8(word + 2 /* flags */) & (SEDGE_CLCW_RETRANSMIT | SEDGE_CLCW_WAIT | SEDGE_CLCW_LOCKOUT)) != 0 ||
+        get8(word + 4 /* value */) != (vs & 255)) goto l6; /* report 15 */
 l7:; /* report 13, 14 */
     new_vr = 0;
     put8(released, 0);
-    state = SEDGE_FOP_S1;
+    new_state = SEDGE_FOP_S1;
     new_control = SEDGE_CONTROL_IDLE;
-    sent = 0;
+    new_sent = 0;
     goto l5;
 l6:; /* report 15, 16 */
     new_vr = 0;
     put8(released, 0);
     switch (new_control) {
     case SEDGE_CONTROL_UNLOCK_DUE: /* report 15 */
-        new_control = (v9 != 0) ? 1U : 3U;
+        new_control = (v9 != 0) ? SEDGE_CONTROL_UNLOCK_DUE : SEDGE_CONTROL_SET_VR_DUE;
         if (v6 != 0) goto l4;
         break;
     case SEDGE_CONTROL_UNLOCK_SENT: /* report 15 */
-        new_control = (v9 != 0) ? 2U : 4U;
+        new_control = (v9 != 0) ? SEDGE_CONTROL_UNLOCK_SENT : SEDGE_CONTROL_SET_VR_SENT;
         if (v6 != 0) goto l4;
         break;
     default: /* report 16 */
@@ -4964,45 +4900,46 @@ l6:; /* report 15, 16 */
     }
     if ((ticks & 0xffff) != 0) goto l2; /* report 15 */
 l5:; /* report 5, 6, 13 to 16 */
-    v22 = SEDGE_NO_ALERT;
+    answer = SEDGE_NO_ALERT;
     goto l3;
 l4:; /* report 15 */
     if ((ticks & 0xffff) != 0) {
         new_vr = vr;
-        v22 = SEDGE_NO_ALERT;
+        answer = SEDGE_NO_ALERT;
         goto l1;
     }
-    v22 = SEDGE_NO_ALERT;
+    answer = SEDGE_NO_ALERT;
     new_vr = vr;
 l3:;
-    ticks = 0;
+    new_ticks = 0;
     goto l1;
 l2:; /* report 5 to 8, 15 */
-    v22 = SEDGE_NO_ALERT;
+    answer = SEDGE_NO_ALERT;
 l1:;
     put16(fop /* timer */, timer);
     put8(fop + 15 /* vr */, new_vr);
     put8(fop + 14 /* control */, new_control);
-    put8(fop + 13 /* count */, count);
+    put8(fop + 13 /* count */, new_count);
     put8(fop + 12 /* limit */, limit);
     put8(fop + 11 /* window */, window);
-    put8(fop + 10 /* due */, due);
-    put8(fop + 9 /* sent */, sent);
-    put8(fop + 8 /* waiting */, waiting);
-    put8(fop + 7 /* nn */, nn);
+    put8(fop + 10 /* due */, new_due);
+    put8(fop + 9 /* sent */, new_sent);
+    put8(fop + 8 /* waiting */, new_waiting);
+    put8(fop + 7 /* nn */, new_nn);
     put8(fop + 6 /* vs */, vs);
-    put8(fop + 5 /* state */, state);
+    put8(fop + 5 /* state */, new_state);
     put8(fop + 4 /* room */, room);
-    put16(fop + 2 /* ticks */, ticks);
-    return v22;
+    put16(fop + 2 /* ticks */, new_ticks);
+    return answer;
 }
 
 /* sedge_fop_directive, crates/sedgechisel/src/sender/directive.rt:17 */
 static uint32_t sedge_fop_directive_at(uint64_t fop, uint32_t directive, uint32_t value)
 {
-    uint32_t v3, v4, v5, v6, v7, v8, state, v2, v31, waiting, vr, v10, control, count, timer, limit, due, sent, room,
-        v17, vs, nn, v20, window, ticks, v22, new_waiting, new_state, new_vr, new_control, new_sent, new_due,
-        new_ticks, v23, v24, v26, v27, v28, v29, v30;
+    uint32_t v3, v4, v5, v6, v7, v8, state, v2, control_now, waiting, vr, v10, control, count, timer, limit, due,
+        sent, room, v17, vs, nn, v20, window, ticks, new_count, new_timer, new_limit, new_vs, new_nn, new_window, v22,
+        new_waiting, new_state, new_vr, new_control, new_sent, new_due, new_ticks, vs_now, nn_now, state_now,
+        count_now, sent_now, due_now, vr_now;
     v3 = value & 0xffff;
     v4 = v3 < 256;
     v5 = (v4 != 0) ? v3 : 256U;
@@ -5013,14 +4950,10 @@ static uint32_t sedge_fop_directive_at(uint64_t fop, uint32_t directive, uint32_
     case SEDGE_INIT_WITHOUT_CHECK: /* directive 1 */
         break;
     case SEDGE_INIT_WITH_CHECK: /* directive 2 */
-        v7 = 0;
         v8 = 1;
-        v6 = 0;
         break;
     case SEDGE_INIT_UNLOCK: /* directive 3 */
-        v7 = 0;
         v8 = 2;
-        v6 = 0;
         break;
     case SEDGE_INIT_SET_VR: /* directive 4 */
         if (v4 == 0) return SEDGE_DAMAGED;
@@ -5028,9 +4961,7 @@ static uint32_t sedge_fop_directive_at(uint64_t fop, uint32_t directive, uint32_
         v7 = v5;
         break;
     case SEDGE_TERMINATE: /* directive 5 */
-        v7 = 0;
         v8 = 4;
-        v6 = 0;
         break;
     case SEDGE_SET_VS: /* directive 6 */
         if (v4 == 0) return SEDGE_DAMAGED;
@@ -5047,7 +4978,6 @@ static uint32_t sedge_fop_directive_at(uint64_t fop, uint32_t directive, uint32_
         break;
     case SEDGE_SET_TIMER: /* directive 9 */
         v8 = 8;
-        v7 = 0;
         v6 = value;
         break;
     default:
@@ -5056,7 +4986,7 @@ static uint32_t sedge_fop_directive_at(uint64_t fop, uint32_t directive, uint32_
     state = get8(fop + 5 /* state */);
     v2 = state - 1;
     if ((v2 & 255) > 5) return SEDGE_DAMAGED;
-    v31 = 1;
+    control_now = SEDGE_CONTROL_UNLOCK_DUE;
     waiting = get8(fop + 8 /* waiting */);
     if (waiting > 1) return SEDGE_DAMAGED;
     vr = get8(fop + 15 /* vr */);
@@ -5066,12 +4996,12 @@ static uint32_t sedge_fop_directive_at(uint64_t fop, uint32_t directive, uint32_
     case SEDGE_CONTROL_SET_VR_DUE:
         break;
     case SEDGE_CONTROL_SET_VR_SENT:
-        v31 = 2;
+        control_now = SEDGE_CONTROL_UNLOCK_SENT;
         break;
     default:
         if (control > 2) return SEDGE_DAMAGED;
         v10 = 1;
-        v31 = control;
+        control_now = control;
         if ((vr & 255) != 0) return SEDGE_DAMAGED;
         break;
     }
@@ -5094,23 +5024,30 @@ static uint32_t sedge_fop_directive_at(uint64_t fop, uint32_t directive, uint32_
     window = get8(fop + 11 /* window */);
     if (((window - 1) & 255) >= (room & 255)) return SEDGE_DAMAGED;
     ticks = get16(fop + 2 /* ticks */);
+    new_count = count;
+    new_timer = timer;
+    new_limit = limit;
+    new_vs = vs;
+    new_nn = nn;
+    new_window = window;
     switch (state) {
     case SEDGE_FOP_S2:
     case SEDGE_FOP_S3:
-        if (v31 != 0) return SEDGE_DAMAGED;
+        if (control_now != SEDGE_CONTROL_IDLE) return SEDGE_DAMAGED;
         v22 = sent & 255;
         if (v22 != (v20 & 255) || v22 == 0 || (ticks & 0xffff) == 0) return SEDGE_DAMAGED;
         break;
     case SEDGE_FOP_S4:
-        if ((sent & 255) != (v20 & 255) || ((sent | v31) & 255) != 0 || (ticks & 0xffff) == 0) return SEDGE_DAMAGED;
+        if ((sent & 255) != (v20 & 255) || ((sent | control_now) & 255) != 0 || (ticks & 0xffff) == 0) return
+            SEDGE_DAMAGED;
         break;
     case SEDGE_FOP_S5:
         if ((sent & 255) != (v20 & 255) || (sent & 255) != 0) return SEDGE_DAMAGED;
-        switch (v31) {
-        case 1:
+        switch (control_now) {
+        case SEDGE_CONTROL_UNLOCK_DUE:
             if ((v10 | (uint32_t)((vr & 255) == (vs & 255))) == 0) return SEDGE_DAMAGED;
             break;
-        case 2:
+        case SEDGE_CONTROL_UNLOCK_SENT:
             if ((~v10 & (uint32_t)((vr & 255) != (vs & 255))) != 0 || (ticks & 0xffff) == 0) return SEDGE_DAMAGED;
             break;
         default:
@@ -5118,16 +5055,16 @@ static uint32_t sedge_fop_directive_at(uint64_t fop, uint32_t directive, uint32_
         }
         break;
     case SEDGE_FOP_S6:
-        if (((sent | v31) & 255) != 0 || (waiting & 1) != 0 || (ticks & 0xffff) != 0) return SEDGE_DAMAGED;
+        if (((sent | control_now) & 255) != 0 || (waiting & 1) != 0 || (ticks & 0xffff) != 0) return SEDGE_DAMAGED;
         break;
     default:
-        if (v31 != 0 || (sent & 255) != (v20 & 255) || ((uint32_t)((sent & 255) == 0) ^ (uint32_t)((ticks & 0xffff) !=
-            0)) == 0) return SEDGE_DAMAGED;
+        if (control_now != SEDGE_CONTROL_IDLE || (sent & 255) != (v20 & 255) || ((uint32_t)((sent & 255) == 0) ^
+            (uint32_t)((ticks & 0xffff) != 0)) == 0) return SEDGE_DAMAGED;
         break;
     }
     switch (v8) {
     case 4: /* directive 5 */
-        if ((v2 & 255) == 5) return SEDGE_COP_WRONG_STATE;
+        if ((v2 & 255) == 5 /* SEDGE_FOP_S6 */) return SEDGE_COP_WRONG_STATE;
         new_waiting = 0;
         new_state = SEDGE_FOP_S6;
         new_vr = 0;
@@ -5137,144 +5074,119 @@ static uint32_t sedge_fop_directive_at(uint64_t fop, uint32_t directive, uint32_
         new_ticks = 0;
         goto l23;
     case 6: /* directive 7 */
-        v23 = vs;
-        v24 = nn;
-        window = v7;
-        if (((v7 - 1) & 255) < (room & 255)) goto l30;
-        return SEDGE_COP_WINDOW;
-    case 7: /* directive 8 */
-        v23 = vs;
-        v24 = nn;
-        limit = v7;
-        if ((v7 & 255) != 0) goto l30;
-        return SEDGE_COP_LIMIT;
-    case 8: /* directive 9 */
-        v23 = vs;
-        v24 = nn;
-        timer = v6;
-        if ((v6 & 0xffff) != 0) goto l30;
-        return SEDGE_COP_TIMER;
-    default: /* directive 1 to 4, 6 */
+        vs_now = vs;
+        nn_now = nn;
+        new_window = v7;
+        if (((v7 - 1) & 255) >= (room & 255)) return SEDGE_COP_WINDOW;
         break;
-    }
-    v26 = 5; /* directive 1 to 4, 6 */
-    if ((v2 & 255) != 5) return SEDGE_COP_WRONG_STATE;
-    new_waiting = 0;
-    new_state = SEDGE_FOP_S6;
-    v27 = 1;
-    v23 = v7;
-    v24 = v7;
-    v28 = 0;
-    v29 = 0;
-    v30 = v7;
-    new_vr = 0;
-    new_control = SEDGE_CONTROL_IDLE;
-    new_sent = 0;
-    new_due = 0;
-    new_ticks = 0;
-    switch (v8) {
-    case 1: /* directive 2 */
-        count = 1;
+    case 7: /* directive 8 */
+        vs_now = vs;
+        nn_now = nn;
+        new_limit = v7;
+        if ((v7 & 255) == 0) return SEDGE_COP_LIMIT;
+        break;
+    case 8: /* directive 9 */
+        vs_now = vs;
+        nn_now = nn;
+        new_timer = v6;
+        if ((v6 & 0xffff) == 0) return SEDGE_COP_TIMER;
+        break;
+    default: /* directive 1 to 4, 6 */
+        state_now = SEDGE_FOP_S5;
+        if ((v2 & 255) != 5 /* SEDGE_FOP_S6 */) return SEDGE_COP_WRONG_STATE;
         new_waiting = 0;
-        new_state = SEDGE_FOP_S4;
+        new_state = SEDGE_FOP_S6;
+        count_now = 1;
+        vs_now = v7;
+        nn_now = v7;
+        sent_now = 0;
+        due_now = 0;
+        vr_now = v7;
         new_vr = 0;
         new_control = SEDGE_CONTROL_IDLE;
-        nn = vs;
         new_sent = 0;
         new_due = 0;
-        new_ticks = timer;
-        goto l23;
-    case 2: /* directive 3 */
-        new_control = SEDGE_CONTROL_UNLOCK_DUE;
-        new_waiting = 0;
-        new_state = SEDGE_FOP_S5;
-        new_vr = 0;
-        goto l24;
-    case 3: /* directive 4 */
-        goto l29;
-    case 4:
-        goto l23;
-    case 5: /* directive 6 */
-        break;
-    default: /* directive 1 */
-        new_waiting = 0;
-        new_state = SEDGE_FOP_S1;
-        new_vr = 0;
-        new_control = SEDGE_CONTROL_IDLE;
-        goto l24;
+        new_ticks = 0;
+        switch (v8) {
+        case 1: /* directive 2 */
+            new_count = 1;
+            new_state = SEDGE_FOP_S4;
+            new_nn = vs;
+            new_ticks = timer;
+            goto l23;
+        case 2: /* directive 3 */
+            new_control = SEDGE_CONTROL_UNLOCK_DUE;
+            new_state = SEDGE_FOP_S5;
+            goto l24;
+        case 3: /* directive 4 */
+            goto l29;
+        case 4:
+            goto l23;
+        case 5: /* directive 6 */
+            break;
+        default: /* directive 1 */
+            new_state = SEDGE_FOP_S1;
+            goto l24;
+        }
+        break; /* directive 6 */
     }
-l30:; /* directive 6 to 9 */
-    new_state = state;
+    new_state = state; /* directive 6 to 9 */
     new_waiting = waiting;
-    new_vr = v31;
-    new_control = v31;
-    vs = v23;
-    nn = v24;
+    new_vr = control_now;
+    new_control = control_now;
+    new_vs = vs_now;
+    new_nn = nn_now;
     new_sent = sent;
     new_due = due;
     new_ticks = ticks;
-    switch (v31) {
-    case 1: /* directive 7 to 9 */
+    switch (control_now) {
+    case SEDGE_CONTROL_UNLOCK_DUE: /* directive 7 to 9 */
         if (v10 != 0) {
             new_control = SEDGE_CONTROL_UNLOCK_DUE;
             new_vr = 0;
-            new_state = state;
-            new_waiting = waiting;
-            goto l25;
+            goto l23;
         }
-        v26 = state;
-        v7 = v23;
-        new_waiting = waiting;
-        v28 = sent;
-        v29 = due;
-        v27 = count;
-        v30 = vr;
+        state_now = state;
+        v7 = vs_now;
+        sent_now = sent;
+        due_now = due;
+        count_now = count;
+        vr_now = vr;
         break;
-    case 2: /* directive 7 to 9 */
-        new_control = (v10 != 0) ? 2U : 4U;
-        new_state = state;
-        new_waiting = waiting;
+    case SEDGE_CONTROL_UNLOCK_SENT: /* directive 7 to 9 */
+        new_control = (v10 != 0) ? SEDGE_CONTROL_UNLOCK_SENT : SEDGE_CONTROL_SET_VR_SENT;
         new_vr = vr;
-        goto l25;
+        goto l23;
     default:
         goto l23;
     }
 l29:; /* directive 4, 7 to 9 */
     new_control = SEDGE_CONTROL_SET_VR_DUE;
-    new_state = v26;
-    new_vr = v30;
-    vs = v7;
-    nn = v24;
-    new_sent = v28;
-    new_due = v29;
-    count = v27;
-    new_ticks = ticks;
-    goto l23;
-l25:; /* directive 7 to 9 */
-    vs = v23;
-    nn = v24;
-    new_sent = sent;
-    new_due = due;
+    new_state = state_now;
+    new_vr = vr_now;
+    new_vs = v7;
+    new_nn = nn_now;
+    new_sent = sent_now;
+    new_due = due_now;
+    new_count = count_now;
     new_ticks = ticks;
     goto l23;
 l24:; /* directive 1, 3 */
-    nn = vs;
-    new_sent = 0;
-    new_due = 0;
-    count = 1;
+    new_nn = vs;
+    new_count = 1;
     new_ticks = ticks;
 l23:;
-    put16(fop /* timer */, timer);
+    put16(fop /* timer */, new_timer);
     put8(fop + 15 /* vr */, new_vr);
     put8(fop + 14 /* control */, new_control);
-    put8(fop + 13 /* count */, count);
-    put8(fop + 12 /* limit */, limit);
-    put8(fop + 11 /* window */, window);
+    put8(fop + 13 /* count */, new_count);
+    put8(fop + 12 /* limit */, new_limit);
+    put8(fop + 11 /* window */, new_window);
     put8(fop + 10 /* due */, new_due);
     put8(fop + 9 /* sent */, new_sent);
     put8(fop + 8 /* waiting */, new_waiting);
-    put8(fop + 7 /* nn */, nn);
-    put8(fop + 6 /* vs */, vs);
+    put8(fop + 7 /* nn */, new_nn);
+    put8(fop + 6 /* vs */, new_vs);
     put8(fop + 5 /* state */, new_state);
     put16(fop + 2 /* ticks */, new_ticks);
     return SEDGE_OK;
@@ -5283,12 +5195,13 @@ l23:;
 /* sedge_fop_next, crates/sedgechisel/src/sender.rt:94 */
 static uint32_t sedge_fop_next_at(uint64_t fop, uint64_t number)
 {
-    uint32_t state, v4, v5, waiting, vr, v8, control, count, timer, limit, due, sent, room, v15, vs, nn, v18, window,
-        ticks, v21, v22, v20, new_control, new_vr, new_ticks;
+    uint32_t state, v4, control_now, waiting, vr, v8, control, count, timer, limit, due, sent, room, v15, vs, nn, v18,
+        window, ticks, new_waiting, new_count, new_due, new_sent, new_vs, ticks_now, v5, answer, v20, new_control,
+        new_vr, new_ticks;
     state = get8(fop + 5 /* state */);
     v4 = state - 1;
     if ((v4 & 255) > 5) return SEDGE_DAMAGED;
-    v5 = 1;
+    control_now = SEDGE_CONTROL_UNLOCK_DUE;
     waiting = get8(fop + 8 /* waiting */);
     if (waiting > 1) return SEDGE_DAMAGED;
     vr = get8(fop + 15 /* vr */);
@@ -5298,12 +5211,12 @@ static uint32_t sedge_fop_next_at(uint64_t fop, uint64_t number)
     case SEDGE_CONTROL_SET_VR_DUE: /* pull 1 */
         break;
     case SEDGE_CONTROL_SET_VR_SENT: /* pull 5 */
-        v5 = 2;
+        control_now = SEDGE_CONTROL_UNLOCK_SENT;
         break;
     default:
         if (control > 2) return SEDGE_DAMAGED;
         v8 = 1;
-        v5 = control;
+        control_now = control;
         if ((vr & 255) != 0) return SEDGE_DAMAGED;
         break;
     }
@@ -5326,26 +5239,33 @@ static uint32_t sedge_fop_next_at(uint64_t fop, uint64_t number)
     window = get8(fop + 11 /* window */);
     if (((window - 1) & 255) >= (room & 255)) return SEDGE_DAMAGED;
     ticks = get16(fop + 2 /* ticks */);
+    new_waiting = waiting;
+    new_count = count;
+    new_due = due;
+    new_sent = sent;
+    new_vs = vs;
+    ticks_now = ticks;
     switch (state) {
     case SEDGE_FOP_S2:
     case SEDGE_FOP_S3: /* pull 3 to 5 */
-        if (v5 != 0) return SEDGE_DAMAGED;
-        v21 = sent & 255;
-        if (v21 != (v18 & 255) || v21 == 0 || (ticks & 0xffff) == 0) return SEDGE_DAMAGED;
+        if (control_now != SEDGE_CONTROL_IDLE) return SEDGE_DAMAGED;
+        v5 = sent & 255;
+        if (v5 != (v18 & 255) || v5 == 0 || (ticks & 0xffff) == 0) return SEDGE_DAMAGED;
         if ((v4 & 255) > 1) goto l12; /* pull 5 */
         goto l13;
     case SEDGE_FOP_S4: /* pull 5 */
-        if ((sent & 255) != (v18 & 255) || ((sent | v5) & 255) != 0 || (ticks & 0xffff) == 0) return SEDGE_DAMAGED;
+        if ((sent & 255) != (v18 & 255) || ((sent | control_now) & 255) != 0 || (ticks & 0xffff) == 0) return
+            SEDGE_DAMAGED;
         break;
     case SEDGE_FOP_S5: /* pull 1, 5 */
         if ((sent & 255) != (v18 & 255) || (sent & 255) != 0) return SEDGE_DAMAGED;
-        switch (v5) {
-        case 1: /* pull 1 */
+        switch (control_now) {
+        case SEDGE_CONTROL_UNLOCK_DUE: /* pull 1 */
             if ((v8 | (uint32_t)((vr & 255) == (vs & 255))) != 0) goto l4;
             return SEDGE_DAMAGED;
-        case 2: /* pull 5 */
+        case SEDGE_CONTROL_UNLOCK_SENT: /* pull 5 */
             if ((~v8 & (uint32_t)((vr & 255) != (vs & 255))) != 0 || (ticks & 0xffff) == 0) return SEDGE_DAMAGED;
-            v22 = SEDGE_NEXT_NOTHING;
+            answer = SEDGE_NEXT_NOTHING;
             put8(number, 0);
             v20 = 1;
             goto l3;
@@ -5353,26 +5273,26 @@ static uint32_t sedge_fop_next_at(uint64_t fop, uint64_t number)
             return SEDGE_DAMAGED;
         }
     case SEDGE_FOP_S6: /* pull 5 */
-        if (((sent | v5) & 255) != 0 || (waiting & 1) != 0 || (ticks & 0xffff) != 0) return SEDGE_DAMAGED;
+        if (((sent | control_now) & 255) != 0 || (waiting & 1) != 0 || (ticks & 0xffff) != 0) return SEDGE_DAMAGED;
         break;
     default: /* pull 3 to 5 */
-        if (v5 != 0 || (sent & 255) != (v18 & 255)) return SEDGE_DAMAGED;
+        if (control_now != SEDGE_CONTROL_IDLE || (sent & 255) != (v18 & 255)) return SEDGE_DAMAGED;
         if (((uint32_t)((sent & 255) == 0) ^ (uint32_t)((ticks & 0xffff) != 0)) != 0) goto l13;
         return SEDGE_DAMAGED;
     }
-    if (v5 == 1) goto l4;
-    v22 = SEDGE_NEXT_NOTHING;
+    if (control_now == SEDGE_CONTROL_UNLOCK_DUE) goto l4;
+    answer = SEDGE_NEXT_NOTHING;
     put8(number, 0);
     v20 = (ticks & 0xffff) != 0;
     new_control = SEDGE_CONTROL_IDLE;
     new_vr = 0;
-    if (v5 == 0) goto l2;
+    if (control_now == SEDGE_CONTROL_IDLE) goto l2;
     goto l3;
 l13:; /* pull 3 to 5 */
     if ((due & 255) != 0) { /* pull 3 */
         put8(number, sent + nn - due);
-        due = due - 1;
-        v22 = SEDGE_NEXT_AGAIN;
+        new_due = due - 1;
+        answer = SEDGE_NEXT_AGAIN;
         new_vr = 0;
         new_control = SEDGE_CONTROL_IDLE;
         new_ticks = timer;
@@ -5380,19 +5300,19 @@ l13:; /* pull 3 to 5 */
     }
     if ((sent & 255) < (window & 255) && (waiting & 1) != 0) { /* pull 4 */
         put8(number, vs);
-        count = ((sent & 255) != 0) ? count : 1U;
-        vs = vs + 1;
-        sent = sent + 1;
-        v22 = SEDGE_NEXT_FIRST;
+        new_count = ((sent & 255) != 0) ? count : 1U;
+        new_vs = vs + 1;
+        new_sent = sent + 1;
+        answer = SEDGE_NEXT_FIRST;
         new_vr = 0;
         new_control = SEDGE_CONTROL_IDLE;
-        waiting = 0;
-        due = 0;
+        new_waiting = 0;
+        new_due = 0;
         new_ticks = timer;
         goto l1;
     }
 l12:; /* pull 5 */
-    v22 = SEDGE_NEXT_NOTHING;
+    answer = SEDGE_NEXT_NOTHING;
     put8(number, 0);
     v20 = (ticks & 0xffff) != 0;
     new_control = SEDGE_CONTROL_IDLE;
@@ -5401,29 +5321,29 @@ l12:; /* pull 5 */
 l4:; /* pull 1 */
     put8(number, (v8 != 0) ? 0U : vr);
     v20 = 1;
-    v22 = (v8 != 0) ? 1U : 2U;
-    ticks = timer;
+    answer = (v8 != 0) ? SEDGE_NEXT_UNLOCK : SEDGE_NEXT_SET_VR;
+    ticks_now = timer;
 l3:; /* pull 1, 5 */
-    new_control = (v8 != 0) ? 2U : 4U;
+    new_control = (v8 != 0) ? SEDGE_CONTROL_UNLOCK_SENT : SEDGE_CONTROL_SET_VR_SENT;
     new_vr = vr;
 l2:; /* pull 1, 5 */
-    new_ticks = (v20 != 0) ? ticks : 0U;
+    new_ticks = (v20 != 0) ? ticks_now : 0U;
 l1:;
     put16(fop /* timer */, timer);
     put8(fop + 15 /* vr */, new_vr);
     put8(fop + 14 /* control */, new_control);
-    put8(fop + 13 /* count */, count);
+    put8(fop + 13 /* count */, new_count);
     put8(fop + 12 /* limit */, limit);
     put8(fop + 11 /* window */, window);
-    put8(fop + 10 /* due */, due);
-    put8(fop + 9 /* sent */, sent);
-    put8(fop + 8 /* waiting */, waiting);
+    put8(fop + 10 /* due */, new_due);
+    put8(fop + 9 /* sent */, new_sent);
+    put8(fop + 8 /* waiting */, new_waiting);
     put8(fop + 7 /* nn */, nn);
-    put8(fop + 6 /* vs */, vs);
+    put8(fop + 6 /* vs */, new_vs);
     put8(fop + 5 /* state */, state);
     put8(fop + 4 /* room */, room);
     put16(fop + 2 /* ticks */, new_ticks);
-    return v22;
+    return answer;
 }
 
 /* sedge_fop_submit, crates/sedgechisel/src/sender.rt:81 */
@@ -5489,8 +5409,8 @@ static uint32_t sedge_fop_submit_at(uint64_t fop)
         }
         break;
     case SEDGE_FOP_S6: /* submission 1 */
-        return ((((sent | new_control) & 255) != 0) ? ~0U : (((waiting & 1) != 0) ? ~0U : (((ticks & 0xffff) != 0) ?
-            ~0U : 6U))) & 255;
+        if (((sent | new_control) & 255) != 0 || (waiting & 1) != 0 || (ticks & 0xffff) != 0) return SEDGE_DAMAGED;
+        return SEDGE_COP_NOT_OPEN;
     default: /* submission 2, 3 */
         if (new_control != SEDGE_CONTROL_IDLE || (sent & 255) != (v12 & 255) || ((uint32_t)((sent & 255) == 0) ^
             (uint32_t)((ticks & 0xffff) != 0)) == 0) return SEDGE_DAMAGED;
@@ -5500,14 +5420,14 @@ static uint32_t sedge_fop_submit_at(uint64_t fop)
     new_vr = new_control; /* submission 3 */
     switch (new_control) {
     case SEDGE_CONTROL_UNLOCK_DUE:
-        new_control = (v6 != 0) ? 1U : 3U;
+        new_control = (v6 != 0) ? SEDGE_CONTROL_UNLOCK_DUE : SEDGE_CONTROL_SET_VR_DUE;
         if (v3 == 0) {
             new_vr = 0;
             goto l14;
         }
         break;
     case SEDGE_CONTROL_UNLOCK_SENT:
-        new_control = (v6 != 0) ? 2U : 4U;
+        new_control = (v6 != 0) ? SEDGE_CONTROL_UNLOCK_SENT : SEDGE_CONTROL_SET_VR_SENT;
         if (v3 == 0) {
             new_vr = 0;
             goto l14;
@@ -5528,7 +5448,7 @@ l14:; /* submission 3 */
 static uint32_t sedge_fop_tick_at(uint64_t fop)
 {
     uint32_t state, v3, v4, waiting, vr, v7, new_control, control, count, timer, limit, due, sent, room, v15, vs, v17,
-        ticks, v18, v19, new_vr, v14, new_ticks;
+        ticks, new_state, new_waiting, new_count, timer_now, new_due, new_sent, v18, v19, new_vr, answer, new_ticks;
     state = get8(fop + 5 /* state */);
     v3 = state - 1;
     if ((v3 & 255) > 5) return SEDGE_DAMAGED;
@@ -5569,6 +5489,12 @@ static uint32_t sedge_fop_tick_at(uint64_t fop)
     if ((v17 & 255) > v15 || extend32(room, 0x80) > 0x7fffffffU || ((get8(fop + 11 /* window */) - 1) & 255) >= (room
         & 255)) return SEDGE_DAMAGED;
     ticks = get16(fop + 2 /* ticks */);
+    new_state = state;
+    new_waiting = waiting;
+    new_count = count;
+    timer_now = timer;
+    new_due = due;
+    new_sent = sent;
     switch (state) {
     case SEDGE_FOP_S2:
     case SEDGE_FOP_S3:
@@ -5596,7 +5522,7 @@ static uint32_t sedge_fop_tick_at(uint64_t fop)
         break;
     case SEDGE_FOP_S6:
         if (((sent | new_control) & 255) != 0 || (waiting & 1) != 0) return SEDGE_DAMAGED;
-        timer = 0;
+        timer_now = 0;
         v19 = 0;
         if ((ticks & 0xffff) == 0) goto l7;
         return SEDGE_DAMAGED;
@@ -5606,42 +5532,39 @@ static uint32_t sedge_fop_tick_at(uint64_t fop)
         break;
     }
     if ((ticks & 0xffff) == 0) {
-        timer = 0;
+        timer_now = 0;
         v19 = 0;
         goto l7;
     }
 l9:;
     v19 = 1;
     if ((ticks & 0xffff) != 1) {
-        timer = ticks - 1;
+        timer_now = ticks - 1;
     } else { /* tick 1 to 4 */
         new_vr = 0;
-        v14 = SEDGE_ALERT_TIMER;
-        if ((v3 & 255) == 3 || (limit & 255) <= count) { /* tick 4 */
-            state = SEDGE_FOP_S6;
+        answer = SEDGE_ALERT_TIMER;
+        if ((v3 & 255) == 3 /* SEDGE_FOP_S4 */ || (limit & 255) <= count) { /* tick 4 */
+            new_state = SEDGE_FOP_S6;
             new_control = SEDGE_CONTROL_IDLE;
-            due = 0;
-            sent = 0;
-            waiting = 0;
+            new_due = 0;
+            new_sent = 0;
+            new_waiting = 0;
             new_ticks = 0;
             goto l1;
         }
         switch (state) {
         case SEDGE_FOP_S3: /* tick 2 */
-            v19 = 1;
-            count = count + 1;
+            new_count = count + 1;
             break;
         case SEDGE_FOP_S4:
             UNREACHABLE;
         case SEDGE_FOP_S5: /* tick 3 */
-            v19 = 1;
-            count = count + 1;
+            new_count = count + 1;
             if (new_control == SEDGE_CONTROL_UNLOCK_SENT) goto l6;
             break;
         default: /* tick 1 */
-            v19 = 1;
-            count = count + 1;
-            due = sent;
+            new_count = count + 1;
+            new_due = sent;
             break;
         }
     }
@@ -5651,7 +5574,7 @@ l7:;
     case SEDGE_CONTROL_UNLOCK_DUE:
         break;
     case SEDGE_CONTROL_UNLOCK_SENT:
-        new_control = (v7 != 0) ? 2U : 4U;
+        new_control = (v7 != 0) ? SEDGE_CONTROL_UNLOCK_SENT : SEDGE_CONTROL_SET_VR_SENT;
         if (v4 == 0) {
             new_vr = 0;
             goto l3;
@@ -5661,7 +5584,7 @@ l7:;
         goto l3;
     }
 l6:;
-    new_control = (v7 != 0) ? 1U : 3U;
+    new_control = (v7 != 0) ? SEDGE_CONTROL_UNLOCK_DUE : SEDGE_CONTROL_SET_VR_DUE;
     if (v4 == 0) {
         new_vr = 0;
         goto l3;
@@ -5669,28 +5592,29 @@ l6:;
 l4:;
     new_vr = vr;
 l3:;
-    v14 = SEDGE_NO_ALERT;
-    new_ticks = (v19 != 0) ? timer : 0U;
+    answer = SEDGE_NO_ALERT;
+    new_ticks = (v19 != 0) ? timer_now : 0U;
 l1:;
     put8(fop + 15 /* vr */, new_vr);
     put8(fop + 14 /* control */, new_control);
-    put8(fop + 13 /* count */, count);
-    put8(fop + 10 /* due */, due);
-    put8(fop + 9 /* sent */, sent);
-    put8(fop + 8 /* waiting */, waiting);
-    put8(fop + 5 /* state */, state);
+    put8(fop + 13 /* count */, new_count);
+    put8(fop + 10 /* due */, new_due);
+    put8(fop + 9 /* sent */, new_sent);
+    put8(fop + 8 /* waiting */, new_waiting);
+    put8(fop + 5 /* state */, new_state);
     put16(fop + 2 /* ticks */, new_ticks);
-    return v14;
+    return answer;
 }
 
 /* sedge_tm_builder_build, crates/sedgechisel/src/telemetry_builder.rt:120 */
 static uint32_t sedge_tm_builder_build_at(uint64_t builder, uint64_t ocf, uint64_t ocf_count, uint64_t memory,
     uint64_t memory_count, uint64_t out, uint64_t room, uint64_t total)
 {
-    uint32_t scid, vcid, length, v12, v4, next_count, v27, v9, v49, v51, v53, v55, v65;
-    uint64_t v13, from, count, begun, v17, v18, v19, v20, v2, v21, v22, v3, v23, v24, v25, v5, v26, v6, v7, v31, v32,
-        v28, v33, v34, v35, v36, v37, v38, v39, v29, v30, v40, v41, v42, v43, v44, v45, v46, v47, v48, v50, v52, v54,
-        count_2, v56, v57, t2, v58, v59, v14, v60, from_2, begun_2, v61, v62, v63, v64, new_begun, v66, v67;
+    uint32_t scid, vcid, length, v12, v4, next_count, v27, v9, v48, v50, v52, v54, v64;
+    uint64_t v13, from, count, begun, v17, v18, v19, v20, v2, v21, v22, v3, begun_now, v24, v25, v5, v26, v6, v7, v23,
+        v31, v28, v32, v33, v34, v35, v36, v37, v38, v29, v30, v39, v40, v41, v42, v43, v44, v45, v46, v47, v49, v51,
+        v53, count_2, v55, v56, t2, v57, v58, v14, v59, from_2, begun_2, begun_now_2, v60, v61, v62, v63, new_begun,
+        v65, v66;
     scid = get16(builder + 24 /* scid */);
     if (scid > 0x3ff) return SEDGE_DAMAGED;
     vcid = get8(builder + 28 /* vcid */);
@@ -5714,7 +5638,7 @@ static uint32_t sedge_tm_builder_build_at(uint64_t builder, uint64_t ocf, uint64
     if (begun < v21) {
         v22 = count - begun;
         v3 = v18 + from + begun;
-        v23 = begun;
+        begun_now = begun;
         while (v22 >= 6) {
             v12 = get8(v3);
             if (v12 > 31 || ((v12 & 8) != 0 && (((v12 << 8) & 0x700) | get8(v3 + 1)) == 0x7ff)) return SEDGE_DAMAGED;
@@ -5722,8 +5646,8 @@ static uint32_t sedge_tm_builder_build_at(uint64_t builder, uint64_t ocf, uint64
             if (v22 < v24) return SEDGE_DAMAGED;
             v22 = v22 - v24;
             v3 = v3 + v24;
-            v21 = v21 - v23;
-            v23 = v24;
+            v21 = v21 - begun_now;
+            begun_now = v24;
             if (v24 >= v21) goto l3;
         }
         if (v22 != 0) return SEDGE_DAMAGED;
@@ -5750,136 +5674,135 @@ l3:;
         goto l9;
     }
     v7 = v18 + from;
-    v31 = (v20 < v13) ? v20 : v13;
-    v32 = v20 - v31;
-    v28 = v26 + v31;
-    v33 = address(constant_66 + 7) - v13;
-    if ((v26 - v33) < v31) {
-        v34 = v31 & 3;
-        v35 = 0;
-        if (v31 >= 4) {
-            v36 = address(constant_66) - v13;
-            v37 = v31 & 4;
-            v35 = 0;
+    v23 = (v20 < v13) ? v20 : v13;
+    v31 = v20 - v23;
+    v28 = v26 + v23;
+    v32 = address(constant_66 + 7) - v13;
+    if ((v26 - v32) < v23) {
+        v33 = v23 & 3;
+        v34 = 0;
+        if (v23 >= 4) {
+            v35 = address(constant_66) - v13;
+            v36 = v23 & 4;
             do {
-                put32(v5 + v35 + 6, get32(v36 + v35 + 7));
-                v35 = v35 + 4;
-            } while (v37 != v35);
-            if (v34 == 0) goto l13;
+                put32(v5 + v34 + 6, get32(v35 + v34 + 7));
+                v34 = v34 + 4;
+            } while (v36 != v34);
+            if (v33 == 0) goto l13;
         }
-        v38 = v35 - v13 + address(constant_66 + 7);
-        v39 = v25 + v35 + out + 6;
+        v37 = v34 - v13 + address(constant_66 + 7);
+        v38 = v25 + v34 + out + 6;
         do {
-            put8(v39, get8(v38));
-            v39 = v39 + 1;
+            put8(v38, get8(v37));
             v38 = v38 + 1;
-            v34 = v34 - 1;
-        } while (v34 != 0);
-    } else if (v31 != 0) copy(v26, v33, v31);
+            v37 = v37 + 1;
+            v33 = v33 - 1;
+        } while (v33 != 0);
+    } else if (v23 != 0) copy(v26, v32, v23);
 l13:;
-    v29 = (v32 < count) ? v32 : count;
-    v30 = v32 - v29;
+    v29 = (v31 < count) ? v31 : count;
+    v30 = v31 - v29;
     if (v29 != 0) copy(v28, v7, v29);
-    v40 = v28 + v29;
+    v39 = v28 + v29;
     if (v30 <= 6) {
-        if ((v40 - address(constant_66)) >= v30) {
+        if ((v39 - address(constant_66)) >= v30) {
             if (v30 == 0) goto l20;
-            copy(v40, address(constant_66), v30);
+            copy(v39, address(constant_66), v30);
         } else {
-            v41 = v30 & 3;
-            v42 = 0;
-            if ((v19 - (v29 + v31) - 13) >= 3) {
-                v43 = v30 & 4;
-                v44 = out + (v25 + v29 + v31);
-                v42 = 0;
+            v40 = v30 & 3;
+            v41 = 0;
+            if ((v19 - (v29 + v23) - 13) >= 3) {
+                v42 = v30 & 4;
+                v43 = out + (v25 + v29 + v23);
                 do {
-                    put32(v44 + v42 + 6, get32(v42 + address(constant_66)));
-                    v42 = v42 + 4;
-                } while (v43 != v42);
-                if (v41 == 0) goto l20;
+                    put32(v43 + v41 + 6, get32(v41 + address(constant_66)));
+                    v41 = v41 + 4;
+                } while (v42 != v41);
+                if (v40 == 0) goto l20;
             }
-            v45 = 0 - v41;
-            v46 = v42 + address(constant_66);
-            v47 = v25 + v42 + v29 + v31 + out + 6;
+            v44 = 0 - v40;
+            v45 = v41 + address(constant_66);
+            v46 = v25 + v41 + v29 + v23 + out + 6;
             do {
-                put8(v47, get8(v46));
-                v47 = v47 + 1;
+                put8(v46, get8(v45));
                 v46 = v46 + 1;
                 v45 = v45 + 1;
-            } while (v45 != 0);
+                v44 = v44 + 1;
+            } while (v44 != 0);
         }
     } else {
-        if ((v40 - address(constant_66)) <= 3) {
-            put32(v40, 0xc0ff07);
+        if ((v39 - address(constant_66)) <= 3) {
+            put32(v39, 0xc0ff07);
         } else {
-            put32(v40, 0xc0ff07);
+            put32(v39, 0xc0ff07);
         }
-        v48 = v40 + 6;
-        v49 = (uint32_t)v30 - 7;
-        put16(v40 + 4, (v49 << 8) | ((v49 & 0xff00) >> 8));
-        v50 = v30 - 7;
-        v51 = v50 == 0;
-        if (v51 == 0 && v51 == 0) fill(v48, 85, v50);
-        put8(v48 + v50, 85);
+        v47 = v39 + 6;
+        v48 = (uint32_t)v30 - 7;
+        put16(v39 + 4, (v48 << 8) | ((v48 & 0xff00) >> 8));
+        v49 = v30 - 7;
+        v50 = v49 == 0;
+        if (v50 == 0 && v50 == 0) fill(v47, 85, v49);
+        put8(v47 + v49, 85);
     }
 l20:;
     put8(v5 + 3, next_count);
     put8(v5 + 2, next_count);
     put16(v5, (((scid << 12) | (vcid << 9)) | ((scid >> 4) & 255)) | 256);
-    v52 = begun + v13;
-    v53 = (uint32_t)v52 + 0x1800;
-    v9 = (v52 < v20) ? ((v53 << 8) | ((v53 & 0xff00) >> 8)) : ~224U;
+    v51 = begun + v13;
+    v52 = (uint32_t)v51 + 0x1800;
+    v9 = (v51 < v20) ? ((v52 << 8) | ((v52 & 0xff00) >> 8)) : ~224U;
 l9:;
     put16(v5 + 4, v9);
     put32(v26 + v20, v4);
-    v54 = v19 - 2;
-    v55 = octets_frame_check_check(v5, v54);
-    put16(v5 + v54, (v55 << 8) | ((v55 & 0xff00) >> 8));
+    v53 = v19 - 2;
+    v54 = octets_frame_check_check(v5, v53);
+    put16(v5 + v53, (v54 << 8) | ((v54 & 0xff00) >> 8));
     count_2 = get64(builder + 8 /* count */);
-    v56 = (uint64_t)get8(builder + 30 /* idle_left */);
-    if (v56 == 0 && count_2 == 0) goto l29;
-    v57 = (uint64_t)get16(builder + 26 /* length */) - 12;
-    t2 = v57;
-    v58 = (v57 < v56) ? v57 : v56;
-    v59 = t2 - v58;
-    if (v59 <= count_2) {
-        v14 = v56 - v58;
+    v55 = (uint64_t)get8(builder + 30 /* idle_left */);
+    if (v55 == 0 && count_2 == 0) goto l29;
+    v56 = (uint64_t)get16(builder + 26 /* length */) - 12;
+    t2 = v56;
+    v57 = (v56 < v55) ? v56 : v55;
+    v58 = t2 - v57;
+    if (v58 <= count_2) {
+        v14 = v55 - v57;
     } else {
-        v60 = v59 - count_2;
-        v14 = (v60 < 7) ? (v60 ^ 7) : 0ULL;
+        v59 = v58 - count_2;
+        v14 = (v59 < 7) ? (v59 ^ 7) : 0ULL;
     }
     from_2 = get64(builder /* from */);
     begun_2 = get64(builder + 16 /* begun */);
-    if (begun_2 >= v59) {
-        v61 = begun_2;
-        v62 = v59;
+    begun_now_2 = begun_2;
+    if (begun_2 >= v58) {
+        v60 = begun_2;
+        v61 = v58;
     } else {
-        v63 = count_2 - begun_2;
-        v64 = v18 + from_2 + begun_2;
-        v62 = v59;
+        v62 = count_2 - begun_2;
+        v63 = v18 + from_2 + begun_2;
+        v61 = v58;
         do {
             new_begun = 0;
-            if (v63 < 6) goto l33;
-            v65 = get8(v64);
-            if (v65 > 31 || ((v65 & 8) != 0 && (((v65 << 8) & 0x700) | get8(v64 + 1)) == 0x7ff)) goto l33;
-            v61 = (((uint64_t)get8(v64 + 4) << 8) | (uint64_t)get8(v64 + 5)) + 7;
-            if (v63 < v61) goto l33;
-            v63 = v63 - v61;
-            v64 = v64 + v61;
-            v62 = v62 - begun_2;
-            begun_2 = v61;
-        } while (v61 < v62);
+            if (v62 < 6) goto l33;
+            v64 = get8(v63);
+            if (v64 > 31 || ((v64 & 8) != 0 && (((v64 << 8) & 0x700) | get8(v63 + 1)) == 0x7ff)) goto l33;
+            v60 = (((uint64_t)get8(v63 + 4) << 8) | (uint64_t)get8(v63 + 5)) + 7;
+            if (v62 < v60) goto l33;
+            v62 = v62 - v60;
+            v63 = v63 + v60;
+            v61 = v61 - begun_now_2;
+            begun_now_2 = v60;
+        } while (v60 < v61);
     }
-    new_begun = v61 - v62;
+    new_begun = v60 - v61;
 l33:;
     put8(builder + 30 /* idle_left */, (uint32_t)v14);
     put64(builder + 16 /* begun */, new_begun);
-    v66 = (count_2 < v59) ? count_2 : v59;
-    put64(builder + 8 /* count */, count_2 - v66);
-    put64(builder /* from */, from_2 + v66);
+    v65 = (count_2 < v58) ? count_2 : v58;
+    put64(builder + 8 /* count */, count_2 - v65);
+    put64(builder /* from */, from_2 + v65);
 l29:;
-    v67 = builder + 29;
-    put8(v67, get8(v67) + 1);
+    v66 = builder + 29;
+    put8(v66, get8(v66) + 1);
     put64(total, v19);
     return SEDGE_OK;
 }
@@ -5901,7 +5824,6 @@ static uint64_t sedge_tc_frames_at(uint64_t octets, uint64_t count, uint32_t che
         v9 = some(octets);
         if ((checked & 1) == 0) {
             v4 = 0;
-            v7 = 0;
             do {
                 v10 = count - v7;
                 if (v10 < 5) {
@@ -5935,7 +5857,6 @@ static uint64_t sedge_tc_frames_at(uint64_t octets, uint64_t count, uint32_t che
             } while (v8 != v4);
         } else {
             v17 = 0;
-            v7 = 0;
             do {
                 v18 = count - v7;
                 if (v18 < 5) {
@@ -5990,10 +5911,10 @@ static uint32_t sedge_accepted_beyond_at(uint32_t nn, uint32_t vs, uint32_t valu
 /* sedge_fop_accepted_beyond, crates/sedgechisel/src/sender/accepted.rt:21 */
 static uint32_t sedge_fop_accepted_beyond_at(uint64_t fop, uint32_t value, uint64_t accepted)
 {
-    uint32_t state, v5, waiting, vr, v8, control, sent, room, v11, vs, nn, v14, ticks, v4, v2;
+    uint32_t state, control_now, waiting, vr, v8, control, sent, room, v11, vs, nn, v14, ticks, v4, v2;
     state = get8(fop + 5 /* state */);
     if (((state - 1) & 255) > 5) return SEDGE_DAMAGED;
-    v5 = 1;
+    control_now = SEDGE_CONTROL_UNLOCK_DUE;
     waiting = get8(fop + 8 /* waiting */);
     if (waiting > 1) return SEDGE_DAMAGED;
     vr = get8(fop + 15 /* vr */);
@@ -6003,12 +5924,12 @@ static uint32_t sedge_fop_accepted_beyond_at(uint64_t fop, uint32_t value, uint6
     case SEDGE_CONTROL_SET_VR_DUE:
         break;
     case SEDGE_CONTROL_SET_VR_SENT:
-        v5 = 2;
+        control_now = SEDGE_CONTROL_UNLOCK_SENT;
         break;
     default:
         if (control > 2) return SEDGE_DAMAGED;
         v8 = 1;
-        v5 = control;
+        control_now = control;
         if ((vr & 255) != 0) return SEDGE_DAMAGED;
         break;
     }
@@ -6028,20 +5949,21 @@ static uint32_t sedge_fop_accepted_beyond_at(uint64_t fop, uint32_t value, uint6
     switch (state) {
     case SEDGE_FOP_S2:
     case SEDGE_FOP_S3:
-        if (v5 != 0) return SEDGE_DAMAGED;
+        if (control_now != SEDGE_CONTROL_IDLE) return SEDGE_DAMAGED;
         v4 = sent & 255;
         if (v4 != (v14 & 255) || v4 == 0 || (ticks & 0xffff) == 0) return SEDGE_DAMAGED;
         break;
     case SEDGE_FOP_S4:
-        if ((sent & 255) != (v14 & 255) || ((sent | v5) & 255) != 0 || (ticks & 0xffff) == 0) return SEDGE_DAMAGED;
+        if ((sent & 255) != (v14 & 255) || ((sent | control_now) & 255) != 0 || (ticks & 0xffff) == 0) return
+            SEDGE_DAMAGED;
         break;
     case SEDGE_FOP_S5:
         if ((sent & 255) != (v14 & 255) || (sent & 255) != 0) return SEDGE_DAMAGED;
-        switch (v5) {
-        case 1:
+        switch (control_now) {
+        case SEDGE_CONTROL_UNLOCK_DUE:
             if ((v8 | (uint32_t)((vr & 255) == (vs & 255))) == 0) return SEDGE_DAMAGED;
             break;
-        case 2:
+        case SEDGE_CONTROL_UNLOCK_SENT:
             if ((~v8 & (uint32_t)((vr & 255) != (vs & 255))) != 0 || (ticks & 0xffff) == 0) return SEDGE_DAMAGED;
             break;
         default:
@@ -6049,11 +5971,11 @@ static uint32_t sedge_fop_accepted_beyond_at(uint64_t fop, uint32_t value, uint6
         }
         break;
     case SEDGE_FOP_S6:
-        if (((sent | v5) & 255) != 0 || (waiting & 1) != 0 || (ticks & 0xffff) != 0) return SEDGE_DAMAGED;
+        if (((sent | control_now) & 255) != 0 || (waiting & 1) != 0 || (ticks & 0xffff) != 0) return SEDGE_DAMAGED;
         break;
     default:
-        if (v5 != 0 || (sent & 255) != (v14 & 255) || ((uint32_t)((sent & 255) == 0) ^ (uint32_t)((ticks & 0xffff) !=
-            0)) == 0) return SEDGE_DAMAGED;
+        if (control_now != SEDGE_CONTROL_IDLE || (sent & 255) != (v14 & 255) || ((uint32_t)((sent & 255) == 0) ^
+            (uint32_t)((ticks & 0xffff) != 0)) == 0) return SEDGE_DAMAGED;
         break;
     }
     v2 = 0;

@@ -12,9 +12,11 @@
  * with file and line; comments in a call name the fields of the structs that it is given.
  *
  * No function writes a parameter: what a parameter x becomes is x_now. A variable has the name of the field that it is
- * read from, or new_ and the name of the field that it is written to; others are v2 on, or t1 on. Parameters without a
- * name in the source are p0 on. Numbers that a call answers, and those of fields, have their names in the headers.
- * Nothing here is static that a program writes, and memory is taken by the functions of sedgechisel_memory.h alone. */
+ * read from, and is not written again: what a field x becomes is new_x where it is written to the field, and x_now
+ * elsewhere. The variable answer is what a call returns; others are v2 on, or t1 on. Parameters without a name in the
+ * source are p0 on. Numbers that a call answers, and those of fields, have their names in the headers, and so have the
+ * bits of CLCWs. Nothing here is static that a program writes, and memory is taken by the functions of
+ * sedgechisel_memory.h alone. */
 #include "sedgechisel_memory.h"
 #include "sedgechisel_nodes.h"
 
@@ -886,12 +888,10 @@ static void nodes_config_Config_fault(uint64_t p0, uint64_t p1)
         case 1:
             v16 = 63;
             v17 = v2;
-            v18 = 0;
             break;
         case 2:
             v16 = 7;
             v17 = v3;
-            v18 = 0;
             break;
         case 3:
             v19 = get32(v14);
@@ -954,7 +954,6 @@ static void nodes_config_Config_fault(uint64_t p0, uint64_t p1)
         case 14:
             v16 = 1;
             v17 = v12;
-            v18 = 0;
             break;
         default:
             break;
@@ -2372,7 +2371,6 @@ static uint32_t std_alloc_vec_deque_VecDeque_grow_de4148db516017ec(uint64_t p0)
                 if ((v18 - v17) <= ~3ULL) {
                     v20 = v25 & ~3ULL;
                     v9 = 0;
-                    v12 = 0;
                     do {
                         v26 = v16 + v9;
                         v8 = get64(v26);
@@ -2519,7 +2517,6 @@ static uint32_t std_alloc_vec_deque_VecDeque_grow_de4148db516017ec(uint64_t p0)
             v75 = 0;
             if (v72 >= 4) {
                 v76 = v72 & ~3ULL;
-                v75 = 0;
                 v77 = v70;
                 do {
                     v78 = get64(v77);
@@ -2638,7 +2635,6 @@ static void nodes_ground_node_Ground_report(uint64_t p0, uint64_t p1, uint64_t p
     switch ((uint32_t)((uint64_t)v10 & 255)) {
     case 3:
         if ((v22 & 32) != 0) {
-            v7 = 0;
             put8(p1 + 78, 0);
             put8(p1 + 73, 5);
             put8(p1 + 91, 0);
@@ -2666,24 +2662,21 @@ static void nodes_ground_node_Ground_report(uint64_t p0, uint64_t p1, uint64_t p
             put16(p1 + 76, 0);
             goto l7;
         }
-        if ((v22 & 16) != 0) {
-            put8(p1 + 78, 0);
-            put8(p1 + 73, 5);
-            put8(p1 + 91, 0);
-            put16(p1 + 89, 0);
+        if ((v22 & 16) == 0) {
             put32(p1 + 84, 0);
-            put16(p1 + 76, 0);
-            goto l6;
+            put8(p1 + 73, 0);
+            goto l9;
         }
-        v6 = 0;
+        put8(p1 + 78, 0);
+        put8(p1 + 73, 5);
+        put8(p1 + 91, 0);
+        put16(p1 + 89, 0);
         put32(p1 + 84, 0);
-        put8(p1 + 73, 0);
-        goto l9;
+        put16(p1 + 76, 0);
+        goto l6;
     case 4:
         if ((v22 & 56) == 0) {
-            v7 = 0;
             if (get8(p1 + 74) != v8) goto l4;
-            v6 = 0;
             put8(p1 + 91, 0);
             put16(p1 + 89, 0);
             put32(p1 + 84, 0);
@@ -2695,7 +2688,6 @@ static void nodes_ground_node_Ground_report(uint64_t p0, uint64_t p1, uint64_t p
     default:
         break;
     }
-    v7 = 0;
     put8(v3 + 14, 0);
     put16(v3 + 12, 0);
     if ((v22 & 32) != 0) {
@@ -2760,7 +2752,6 @@ static void nodes_ground_node_Ground_report(uint64_t p0, uint64_t p1, uint64_t p
         put16(p1 + 76, 0);
         goto l7;
     }
-    v6 = 0;
 l9:;
     v7 = 0;
     goto l4;
@@ -2793,7 +2784,6 @@ l4:;
         v15 = p1 + 280;
         v16 = p1 + 256;
         v17 = p1 + 272;
-        v12 = v11;
         v28 = v11;
         do {
             v29 = v28;
@@ -3548,7 +3538,6 @@ static void nodes_ground_node_Ground_prepare(uint64_t p0, uint64_t p1, uint32_t 
                     v55 = 0;
                     if (v29 >= 4) {
                         v30 = v29 & ~3ULL;
-                        v55 = 0;
                         do {
                             v56 = v53 + v55;
                             v57 = v51 + v55;
@@ -3768,7 +3757,6 @@ static uint64_t map_service_cutting_group_len(uint64_t p0, uint64_t p1, uint64_t
     v7 = p1 - v4;
     if (v7 >= 6) {
         v8 = p0 + v4;
-        v6 = 0;
         do {
             v9 = get8(v8);
             if (v9 > 31 || ((v9 & 8) != 0 && (((v9 << 8) & 0x700) | get8(v8 + 1)) == 0x7ff)) {
@@ -4001,7 +3989,6 @@ static uint32_t std_alloc_vec_deque_VecDeque_grow_ab161963403435e1(uint64_t p0, 
                 if ((v18 - v17) <= ~3ULL) {
                     v20 = v27 & ~3ULL;
                     v29 = 0;
-                    v11 = 0;
                     do {
                         v30 = v16 + v29;
                         v12 = get64(v30);
@@ -4148,7 +4135,6 @@ static uint32_t std_alloc_vec_deque_VecDeque_grow_ab161963403435e1(uint64_t p0, 
             v79 = 0;
             if (v76 >= 4) {
                 v80 = v76 & ~3ULL;
-                v79 = 0;
                 v81 = v74;
                 do {
                     v82 = get64(v81);
@@ -4297,9 +4283,7 @@ static void nodes_ground_node_Ground_telemetry(uint64_t p0, uint64_t p1, uint64_
     v18 = v7;
     switch (v9) {
     case 1:
-        if (v3 == 0) {
-            v18 = v7;
-        } else {
+        if (v3 != 0) {
             v29 = v3 + v6;
             if (v29 >= 6) {
                 v30 = (v3 < 6) ? v3 : 6ULL;
@@ -4314,7 +4298,6 @@ static void nodes_ground_node_Ground_telemetry(uint64_t p0, uint64_t p1, uint64_
                     ((((uint64_t)get8(v4 + 118) << 8) | (uint64_t)get8(v4 + 119)) + 7) == v29)) {
                     t1 = tm_link_hand_out_hand_out(v17, v3, v7, v6, v4 + 88);
                     if ((t1 & 255) != 0) goto l12;
-                    v12 = 0;
                     v18 = v7;
                     break;
                 }
@@ -4389,7 +4372,6 @@ l13:;
         if ((v24 - 1) >= 3) {
             v28 = v24 & ~3ULL;
             v46 = 0;
-            v45 = 0;
             do {
                 v47 = v42 + v46;
                 v48 = get64(v47);
@@ -4477,7 +4459,6 @@ l30:;
             v76 = v6 & 3;
             if (v6 >= 4) {
                 v77 = v6 & ~3ULL;
-                v74 = 0;
                 do {
                     v78 = v75 + v74;
                     v79 = v7 + v74;
@@ -4538,7 +4519,6 @@ l30:;
             v91 = 0;
             if (v12 >= 4) {
                 v92 = v12 & ~3ULL;
-                v91 = 0;
                 do {
                     v93 = v89 + v91;
                     v94 = v18 + v91;
@@ -4597,7 +4577,6 @@ l7:;
             v102 = 2;
             v103 = 0;
         } else {
-            v101 = 1;
             v103 = 0;
             v104 = v5 >> 16;
             if ((((v5 >> 8) & 3) | (v104 & 1)) == 0) {
@@ -4663,11 +4642,8 @@ static void tm_link_decoding_decode(uint64_t p0, uint64_t p1, uint64_t p2, uint6
     v14 = 0;
     v15 = 0;
     if ((p3 - 0x801) < ~2032ULL) goto l1;
-    v8 = 1;
     v2 = get8(p1);
     if (v2 > 63) {
-        v9 = 0;
-        v6 = 0;
         v7 = 1;
     } else {
         v7 = 2;
@@ -4681,7 +4657,6 @@ static void tm_link_decoding_decode(uint64_t p0, uint64_t p1, uint64_t p2, uint6
             if ((((v19 << 8) | (v19 >> 8)) & 0xffff) == (t1 & 0xffff)) {
                 if ((v16 & 248) != 24) {
                     v9 = 0;
-                    v6 = 0;
                     v7 = 3;
                     goto l3;
                 }
@@ -4689,22 +4664,17 @@ static void tm_link_decoding_decode(uint64_t p0, uint64_t p1, uint64_t p2, uint6
                 v20 = ((v16 << 8) & 0x700) | v17;
                 if (v20 <= 0x7fd && v5 <= (uint64_t)v20) {
                     v9 = 0;
-                    v6 = 0;
                     v7 = 4;
                     goto l3;
                 }
-                v8 = 1;
                 if ((v3 & 1) == 0) {
                     v9 = 0;
                     v5 = 0;
                     v7 = 5;
                     v10 = 0;
                     v11 = 0;
-                    v12 = 0;
                     v13 = 0;
                     v14 = 0;
-                    v6 = 0;
-                    v15 = 0;
                     goto l1;
                 }
                 v21 = (v2 << 8) | v3;
@@ -4716,7 +4686,6 @@ static void tm_link_decoding_decode(uint64_t p0, uint64_t p1, uint64_t p2, uint6
                     break;
                 case 2047:
                     v13 = 1;
-                    v14 = 0;
                     break;
                 default:
                     v13 = 0;
@@ -4734,16 +4703,13 @@ static void tm_link_decoding_decode(uint64_t p0, uint64_t p1, uint64_t p2, uint6
             }
         }
         v9 = 0;
-        v6 = 0;
     }
 l3:;
     v10 = 0;
     v11 = 0;
-    v12 = 0;
     v13 = 0;
     v14 = 0;
     v5 = 0;
-    v15 = 0;
 l1:;
     put8(p0, v8);
     put16(p0 + 16, v14);
@@ -4810,7 +4776,6 @@ static uint32_t tm_link_hand_out_hand_out(uint64_t p0, uint64_t p1, uint64_t p2,
         v2 = 0;
         if (p1 >= 4) {
             v15 = p1 & ~3ULL;
-            v2 = 0;
             do {
                 v3 = v13 + v2;
                 v4 = p0 + v2;
@@ -4857,7 +4822,6 @@ l11:;
     v21 = 0;
     if (p3 >= 4) {
         v22 = p3 & ~3ULL;
-        v21 = 0;
         do {
             v23 = v19 + v21;
             v24 = p2 + v21;
@@ -5004,7 +4968,6 @@ static uint32_t octets_frame_check_check(uint64_t p0, uint64_t p1)
     if (p1_now != 1) {
         v5 = p1_now & 1;
         v6 = p1_now & ~1ULL;
-        v4 = 0;
         do {
             v7 = p0_now + v4;
             v8 = get16((((uint64_t)(get8(v7) ^ (v2 >> 8)) & 255) << 1) + address(sedge_fecf_tables));
@@ -5028,7 +4991,6 @@ static uint32_t octets_frame_check_check(uint64_t p0, uint64_t p1)
     if (p1 != 1) {
         v5 = p1 & 1;
         v6 = p1 & ~1ULL;
-        v4 = 0;
         do {
             v7 = p0 + v4;
             v3 = get16((((uint64_t)(get8(v7) ^ (v2 >> 8)) & 255) << 1) + address(sedge_fecf_tables));
@@ -5177,12 +5139,8 @@ static void simulated_link_world_World_step(uint64_t p0, uint64_t p1, uint64_t p
         v15 = 0;
         if (v52 > 3) goto l83;
     l84:;
-        v51 = 0;
         if (get64(p1 + 752) == 0) v51 = get64(p1 + 792) == 0;
-        if ((v49 & 255) == 0) {
-            v15 = 0;
-            if (get8(p1 + 473) != get8(p1 + 74)) goto l83;
-        }
+        if ((v49 & 255) == 0 && get8(p1 + 473) != get8(p1 + 74)) goto l83;
         v15 = simulated_link_world_World_is_idle(p1);
     l83:;
         nodes_ground_node_Ground_directive(v3 + 344, p1, v3 + 984);
@@ -5280,7 +5238,6 @@ static void simulated_link_world_World_step(uint64_t p0, uint64_t p1, uint64_t p
             v69 = 0;
             if (v65 >= 4) {
                 v20 = v65 & ~3ULL;
-                v69 = 0;
                 do {
                     v70 = v11 + v69;
                     v71 = v10 + v69;
@@ -5321,7 +5278,6 @@ static void simulated_link_world_World_step(uint64_t p0, uint64_t p1, uint64_t p
                 v78 = 0;
                 if (v9 >= 4) {
                     v79 = v9 & ~3ULL;
-                    v78 = 0;
                     do {
                         v80 = v74 + v78;
                         v81 = v18 + v78;
@@ -5356,7 +5312,6 @@ static void simulated_link_world_World_step(uint64_t p0, uint64_t p1, uint64_t p
         v4 = 1;
         if ((v75 | (uint32_t)(v21 == 0)) == 0) {
             rattle_dealloc_at(v74);
-            v47 = 0;
             v14 = 0;
             goto l28;
         }
@@ -5464,43 +5419,39 @@ static void simulated_link_world_World_step(uint64_t p0, uint64_t p1, uint64_t p
         v101 = get8(v97);
         if (v101 > 63) {
             v100 = 1;
-            goto l128;
+            goto l127;
         }
         if ((v101 & 48) == 16) {
             v100 = 2;
-            goto l128;
+            goto l127;
         }
         if ((v101 & 12) != 0) {
             v100 = 3;
-            goto l128;
+            goto l127;
         }
         v100 = 4;
         v23 = get8(v97 + 2);
         v102 = ((v23 << 8) & 768) | get8(v97 + 3);
-        if (v96 != (uint64_t)(v102 + 1)) goto l128;
-        v99 = 0;
-        if (v102 < 6) goto l127;
+        if (v96 != (uint64_t)(v102 + 1) || v102 < 6) goto l127;
         v24 = get8(v97 + 1);
         v103 = v96 - 2;
         v104 = get16(v97 + v103);
         t6 = octets_frame_check_check(v97, v103);
         if ((((v104 << 8) | (v104 >> 8)) & 0xffff) != (t6 & 0xffff)) {
             v100 = 5;
-            goto l128;
+            goto l127;
         }
         v105 = get8(v97 + 4);
         if (v101 >= 32 && (v105 & 255) != 0) {
             v100 = 6;
-            goto l128;
+            goto l127;
         }
         if ((v101 & 16) != 0) {
             v106 = v96 - 7;
             if (v106 > 3) goto l134;
             v100 = 7;
-            v99 = 0;
             switch ((uint32_t)v106) {
             case 1:
-                v99 = 0;
                 if (get8(v97 + 5) != 0) {
                     v100 = 8;
                     goto l127;
@@ -5517,9 +5468,7 @@ static void simulated_link_world_World_step(uint64_t p0, uint64_t p1, uint64_t p
                 goto l134;
             case 3:
                 v100 = 8;
-                if (get8(v97 + 5) != 130) goto l128;
-                v99 = 0;
-                if (get8(v97 + 6) != 0) goto l127;
+                if (get8(v97 + 5) != 130 || get8(v97 + 6) != 0) goto l127;
                 v27 = get8(v97 + 7);
                 v26 = 1;
                 v25 = 2;
@@ -5534,7 +5483,7 @@ static void simulated_link_world_World_step(uint64_t p0, uint64_t p1, uint64_t p
         }
         if ((v96 - 9) > ~2ULL) {
             v100 = 7;
-            goto l128;
+            goto l127;
         }
         v27 = 0;
         v26 = (v101 < 32) ? v105 : 0U;
@@ -5566,23 +5515,15 @@ static void simulated_link_world_World_step(uint64_t p0, uint64_t p1, uint64_t p
             v27 = 0;
             if (v110 != 3 || ((uint32_t)(get64(p1 + 440) >> ((uint64_t)v108 & 63)) & 1) == 0 || v109 >
                 (uint64_t)get32(p1 + 432)) {
-                v100 = 0;
                 v38 = 0;
                 goto l25;
             }
-            v100 = 0;
             v38 = 0;
-            v22 = 0;
             v116 = 0;
-            v98 = 0;
             if (v109 < 6) goto l24;
             v117 = get8(v107);
             if (v117 > 31 || (((v117 & 8) != 0 && (((v117 << 8) & 0x700) | get8(v107 + 1)) == 0x7ff) ||
-                ((((uint64_t)get8(v107 + 4) << 8) | (uint64_t)get8(v107 + 5)) + 7) != v109)) {
-                v38 = 0;
-                v100 = 0;
-                goto l25;
-            }
+                ((((uint64_t)get8(v107 + 4) << 8) | (uint64_t)get8(v107 + 5)) + 7) != v109)) goto l25;
             v4 = 1;
             rattle_alloc_at(v3 + 264, v109, 1);
             if (((uint32_t)get64(v3 + 264) & 1) == 0) {
@@ -5618,7 +5559,6 @@ static void simulated_link_world_World_step(uint64_t p0, uint64_t p1, uint64_t p
                 v119 = 0;
                 if (v109 >= 4) {
                     v120 = v109 & ~3ULL;
-                    v119 = 0;
                     do {
                         v121 = v116 + v119;
                         v122 = v107 + v119;
@@ -5698,7 +5638,6 @@ static void simulated_link_world_World_step(uint64_t p0, uint64_t p1, uint64_t p
             v34 = 0;
             v35 = 0;
             v38 = 0;
-            v22 = 0;
             goto l14;
         default:
             break;
@@ -5784,7 +5723,6 @@ static void simulated_link_world_World_step(uint64_t p0, uint64_t p1, uint64_t p
                     v36 = v129;
                     v128 = 0;
                     v37 = 0;
-                    v28 = 0;
                     goto l16;
                 }
                 v126 = 0;
@@ -5933,7 +5871,6 @@ static void simulated_link_world_World_step(uint64_t p0, uint64_t p1, uint64_t p
                         v160 = 0;
                         if (v142 >= 4) {
                             v161 = v142 & ~3ULL;
-                            v160 = 0;
                             do {
                                 v162 = v158 + v160;
                                 v163 = v141 + v160;
@@ -5978,7 +5915,6 @@ static void simulated_link_world_World_step(uint64_t p0, uint64_t p1, uint64_t p
                         v171 = 0;
                         if ((v109 - 1) >= 3) {
                             v172 = v109 & ~3ULL;
-                            v171 = 0;
                             do {
                                 v173 = v169 + v171;
                                 v174 = v107 + v171;
@@ -6015,7 +5951,6 @@ static void simulated_link_world_World_step(uint64_t p0, uint64_t p1, uint64_t p
                                 v179 = (uint64_t)get8(v168 + 5);
                                 put64(v3 + 352, v3 + 0xbd8);
                                 v180 = v3 + 360;
-                                v126 = 3;
                                 if (((v179 | (v178 << 8)) + 7) != v167) goto l229;
                                 put64(v3 + 912, v153);
                                 put64(v3 + 904, v167);
@@ -6093,7 +6028,6 @@ static void simulated_link_world_World_step(uint64_t p0, uint64_t p1, uint64_t p
                         v183 = 0;
                         if ((v109 - 1) >= 3) {
                             v184 = v109 & ~3ULL;
-                            v183 = 0;
                             do {
                                 v185 = v129 + v183;
                                 v186 = v107 + v183;
@@ -6183,7 +6117,6 @@ static void simulated_link_world_World_step(uint64_t p0, uint64_t p1, uint64_t p
                         v208 = 0;
                         if ((v204 + v203 + 6) >= 3) {
                             v209 = v205 & 0x1fffc;
-                            v208 = 0;
                             do {
                                 v210 = v206 + v208;
                                 v211 = v200 + v208;
@@ -6310,8 +6243,6 @@ static void simulated_link_world_World_step(uint64_t p0, uint64_t p1, uint64_t p
         goto l22;
     l134:;
         v100 = 8;
-    l128:;
-        v99 = 0;
     l127:;
         put32(v3 + 584, 0);
         put8(v3 + 588, 0);
@@ -6456,7 +6387,6 @@ static void simulated_link_world_World_step(uint64_t p0, uint64_t p1, uint64_t p
         if (v238 == 0) {
             v240 = v3 + 0xbd8;
         } else {
-            v4 = 1;
             rattle_alloc_at(v3 + 280, v239, 1);
             if (((uint32_t)get64(v3 + 280) & 1) == 0) {
                 v241 = 0;
@@ -6477,7 +6407,6 @@ static void simulated_link_world_World_step(uint64_t p0, uint64_t p1, uint64_t p
                 put64(v3 + 864, 0);
                 put64(v3 + 856, 0);
                 v242 = v3 + 856;
-                v4 = 1;
                 if (v238 == 0) goto l39;
                 rattle_dealloc_at(v240);
                 goto l39;
@@ -6544,7 +6473,6 @@ static void simulated_link_world_World_step(uint64_t p0, uint64_t p1, uint64_t p
         put64(v3 + 992, 0);
         put64(v3 + 984, 0);
         v14 = 0;
-        v4 = 1;
         v264 = get64(p1 + 792);
         if (v264 == 0) {
             v47 = 1;
@@ -6613,7 +6541,6 @@ static void simulated_link_world_World_step(uint64_t p0, uint64_t p1, uint64_t p
         put64(v3 + 992, 0);
         put64(v3 + 984, 0);
         v14 = 0;
-        v4 = 1;
         if (get64(p1 + 792) == 0) {
             v47 = 1;
             v58 = 0;
@@ -6882,7 +6809,6 @@ static void simulated_link_world_World_step(uint64_t p0, uint64_t p1, uint64_t p
     v319 = 0;
     if (v6 >= 4) {
         v320 = v6 & ~3ULL;
-        v319 = 0;
         do {
             v321 = v317 + v319;
             v322 = v7 + v319;
@@ -7009,9 +6935,7 @@ l28:;
     v48 = 0;
     goto l5;
 l25:;
-    v22 = 0;
     v116 = 0;
-    v98 = 0;
 l24:;
     v30 = (v112 + 1) & 3;
     put32(v3 + 595, 0);
@@ -7065,7 +6989,6 @@ l23:;
     v126 = 0;
     v32 = 0;
     v115 = 0;
-    v114 = 0;
     v113 = 0;
     v31 = 0;
     v30 = 0;
@@ -7126,13 +7049,10 @@ l16:;
     v127 = 1;
     v27 = 0;
     v99 = 2;
-    v29 = 1;
-    v114 = 0;
     v113 = 0;
     v31 = 0;
 l15:;
     v38 = 0;
-    v22 = 0;
     v100 = v26;
 l14:;
     v116 = 0;
@@ -7233,7 +7153,6 @@ l12:;
         v346 = 0;
         if (v109 >= 4) {
             v347 = v109 & ~3ULL;
-            v346 = 0;
             do {
                 v348 = v339 + v346;
                 v349 = v107 + v346;
@@ -7289,7 +7208,6 @@ l313:;
             v361 = 0;
             if (v357 >= 4) {
                 v362 = v357 & ~3ULL;
-                v361 = 0;
                 do {
                     v363 = v359 + v361;
                     v364 = v356 + v361;
@@ -7565,7 +7483,6 @@ l303:;
                     v430 = v400 & 3;
                     if (v400 >= 4) {
                         v431 = v400 & ~3ULL;
-                        v427 = 0;
                         do {
                             v432 = v429 + v427;
                             v433 = v401 + v427;
@@ -7773,7 +7690,6 @@ l387:;
             v492 = v338 & 1;
             v493 = v490 * 24;
             v494 = v338 & ~1ULL;
-            v491 = 0;
             v495 = v39;
             do {
                 v496 = get64(v495);
@@ -7862,7 +7778,6 @@ l8:;
             v522 = 0;
             if (v518 >= 4) {
                 v523 = v518 & ~3ULL;
-                v522 = 0;
                 do {
                     v524 = v520 + v522;
                     v525 = v517 + v522;
@@ -8300,35 +8215,34 @@ static void tc_frame_encoding_encode(uint64_t p0, uint64_t p1, uint64_t p2, uint
         v10 = get64(p1 + 24);
         v16 = get64(p1 + 32);
         if ((v15 - v10) >= v16) {
-            if (v16 == 0) goto l6;
+            if (v16 == 0) break;
             copy(v15, v10, v16);
-            goto l6;
-        }
-        v11 = v16 & 3;
-        v17 = 0;
-        if (v16 >= 4) {
-            v12 = v16 & ~3ULL;
+        } else {
+            v11 = v16 & 3;
             v17 = 0;
+            if (v16 >= 4) {
+                v12 = v16 & ~3ULL;
+                do {
+                    v18 = p2 + v17;
+                    v19 = v10 + v17;
+                    put8(v18 + 6, get8(v19));
+                    put8(v18 + 7, get8(v19 + 1));
+                    put8(v18 + 8, get8(v19 + 2));
+                    put8(v18 + 9, get8(v19 + 3));
+                    v17 = v17 + 4;
+                } while (v12 != v17);
+                if (v11 == 0) break;
+            }
+            v20 = v10 + v17;
+            v21 = v17 + p2 + 6;
             do {
-                v18 = p2 + v17;
-                v19 = v10 + v17;
-                put8(v18 + 6, get8(v19));
-                put8(v18 + 7, get8(v19 + 1));
-                put8(v18 + 8, get8(v19 + 2));
-                put8(v18 + 9, get8(v19 + 3));
-                v17 = v17 + 4;
-            } while (v12 != v17);
-            if (v11 == 0) goto l6;
+                put8(v21, get8(v20));
+                v21 = v21 + 1;
+                v20 = v20 + 1;
+                v11 = v11 - 1;
+            } while (v11 != 0);
         }
-        v20 = v10 + v17;
-        v21 = v17 + p2 + 6;
-        do {
-            put8(v21, get8(v20));
-            v21 = v21 + 1;
-            v20 = v20 + 1;
-            v11 = v11 - 1;
-        } while (v11 != 0);
-        goto l6;
+        break;
     case 2:
         v22 = 0;
         put8(p2 + 4, 0);
@@ -8338,44 +8252,42 @@ static void tc_frame_encoding_encode(uint64_t p0, uint64_t p1, uint64_t p2, uint
             v22 = 130;
         }
         put8(p2 + 5, v22);
-        goto l6;
+        break;
     default:
+        put8(p2 + 4, get8(p1 + 9));
+        put8(p2 + 5, (get8(p1 + 16) << 6) + get8(p1 + 17));
+        v23 = p2 + 6;
+        v24 = get64(p1 + 24);
+        v25 = get64(p1 + 32);
+        if ((v23 - v24) >= v25) {
+            if (v25 != 0) copy(v23, v24, v25);
+        } else {
+            v26 = v25 & 3;
+            v27 = 0;
+            if (v25 >= 4) {
+                v28 = v25 & ~3ULL;
+                do {
+                    v29 = p2 + v27;
+                    v30 = v24 + v27;
+                    put8(v29 + 6, get8(v30));
+                    put8(v29 + 7, get8(v30 + 1));
+                    put8(v29 + 8, get8(v30 + 2));
+                    put8(v29 + 9, get8(v30 + 3));
+                    v27 = v27 + 4;
+                } while (v28 != v27);
+                if (v26 == 0) break;
+            }
+            v31 = v24 + v27;
+            v32 = v27 + p2 + 6;
+            do {
+                put8(v32, get8(v31));
+                v32 = v32 + 1;
+                v31 = v31 + 1;
+                v26 = v26 - 1;
+            } while (v26 != 0);
+        }
         break;
     }
-    put8(p2 + 4, get8(p1 + 9));
-    put8(p2 + 5, (get8(p1 + 16) << 6) + get8(p1 + 17));
-    v23 = p2 + 6;
-    v24 = get64(p1 + 24);
-    v25 = get64(p1 + 32);
-    if ((v23 - v24) >= v25) {
-        if (v25 != 0) copy(v23, v24, v25);
-    } else {
-        v26 = v25 & 3;
-        v27 = 0;
-        if (v25 >= 4) {
-            v28 = v25 & ~3ULL;
-            v27 = 0;
-            do {
-                v29 = p2 + v27;
-                v30 = v24 + v27;
-                put8(v29 + 6, get8(v30));
-                put8(v29 + 7, get8(v30 + 1));
-                put8(v29 + 8, get8(v30 + 2));
-                put8(v29 + 9, get8(v30 + 3));
-                v27 = v27 + 4;
-            } while (v28 != v27);
-            if (v26 == 0) goto l6;
-        }
-        v31 = v24 + v27;
-        v32 = v27 + p2 + 6;
-        do {
-            put8(v32, get8(v31));
-            v32 = v32 + 1;
-            v31 = v31 + 1;
-            v26 = v26 - 1;
-        } while (v26 != 0);
-    }
-l6:;
     v33 = v4 - 2;
     v34 = octets_frame_check_check(p2, v33);
     put16(p2 + v33, (v34 << 8) | ((v34 & 0xff00) >> 8));
@@ -8439,7 +8351,6 @@ static uint32_t std_alloc_vec_deque_VecDeque_grow_1598ebf9113514c4(uint64_t p0)
                 if ((v17 - v16) <= ~3ULL) {
                     v19 = v24 & ~3ULL;
                     v25 = 0;
-                    v9 = 0;
                     do {
                         v26 = v15 + v25;
                         v12 = get64(v26);
@@ -8566,7 +8477,6 @@ static uint32_t std_alloc_vec_deque_VecDeque_grow_1598ebf9113514c4(uint64_t p0)
             v66 = 0;
             if (v63 >= 4) {
                 v67 = v63 & ~3ULL;
-                v66 = 0;
                 v68 = v61;
                 do {
                     v69 = get64(v68);
@@ -8738,7 +8648,6 @@ static uint32_t std_alloc_vec_Vec_extend_from_slice_672334860c861157(uint64_t p0
         v11 = p2 & 3;
         if (p2 >= 4) {
             v12 = p2 & ~3ULL;
-            v7 = 0;
             do {
                 v2 = v10 + v7;
                 v13 = p1 + v7;
@@ -8870,7 +8779,6 @@ static uint64_t tm_link_builder_TmBuilder_build_in(uint64_t p0, uint32_t p1, uin
         if (v18 >= 4) {
             v28 = address(constant_36) - v12;
             v23 = v18 & ~3ULL;
-            v22 = 0;
             do {
                 put32(p2 + v22 + 6, get32(v28 + v22 + 7));
                 v22 = v22 + 4;
@@ -8895,7 +8803,6 @@ l5:;
         if (v24 >= 4) {
             v33 = p2 + v18;
             v34 = v24 & ~3ULL;
-            v32 = 0;
             do {
                 v35 = v33 + v32;
                 v36 = v16 + v32;
@@ -8929,7 +8836,6 @@ l10:;
             if ((v4 - v42 - 13) >= 3) {
                 v43 = p2 + v42;
                 v44 = v25 & 4;
-                v41 = 0;
                 do {
                     put32(v43 + v41 + 6, get32(v41 + address(constant_36)));
                     v41 = v41 + 4;
@@ -9095,7 +9001,6 @@ static void nodes_spacecraft_Spacecraft_telemetry(uint64_t p0, uint64_t p1, uint
         if ((v9 - v8) <= ~3ULL) {
             v14 = v11 + v9;
             v15 = v10 & ~3ULL;
-            v13 = 0;
             do {
                 v3 = v11 + v13;
                 v16 = v14 + v13;
@@ -9279,7 +9184,6 @@ static void simulated_link_map_lists_append_on(uint64_t p0, uint32_t p1, uint64_
             v9 = v2 & 1;
             v15 = v7 * 24;
             v10 = v2 & ~1ULL;
-            v8 = 0;
             v16 = v4;
             do {
                 v11 = get64(v16);
@@ -9387,7 +9291,6 @@ static uint32_t std_alloc_vec_deque_VecDeque_grow_ee377714b7165a56(uint64_t p0)
                 if ((v15 - v14) <= ~3ULL) {
                     v17 = v22 & ~3ULL;
                     v23 = 0;
-                    v10 = 0;
                     do {
                         v24 = v7 + v23;
                         v8 = v13 + v23;
@@ -9474,7 +9377,6 @@ static uint32_t std_alloc_vec_deque_VecDeque_grow_ee377714b7165a56(uint64_t p0)
             v45 = 0;
             if (v42 >= 4) {
                 v46 = v42 & ~3ULL;
-                v45 = 0;
                 v47 = v40;
                 do {
                     v48 = v47 + v41;
@@ -9562,7 +9464,6 @@ static uint32_t sedgechisel_nodes_spacecraft_take_taken(uint64_t p0, uint32_t p1
         v4 = 0;
         if (v10 >= 4) {
             v13 = v10 & ~3ULL;
-            v4 = 0;
             do {
                 v5 = p3 + v4;
                 v14 = v11 + v4;
@@ -9659,7 +9560,7 @@ static void sedge_config_default_at(uint64_t config)
 static uint32_t sedge_config_fault_at(uint64_t config)
 {
     unsigned char frame_octets[32 + 15];
-    uint32_t v4, t1, v8;
+    uint32_t v4, t1, answer;
     uint64_t v1, v6, v2, v3, v5, v7;
     v1 = aligned(frame_octets);
     put64(v1 + 24, 0);
@@ -9679,8 +9580,8 @@ static uint32_t sedge_config_fault_at(uint64_t config)
                 (get8(v7 + 2) & 255) && (get8(v3 + 3) & 255) == (get8(v7 + 3) & 255)) {
                 t1 = core_cmp_slices_groups_equal_i8_31_core_cmp_numbers_U8PartialEq(v3, v2, v7);
                 if (t1 != 0) {
-                    v8 = v4 + 1;
-                    return v8;
+                    answer = v4 + 1;
+                    return answer;
                 }
             }
         }
@@ -9856,7 +9757,6 @@ l3:;
         if (v25 != 0) {
             v37 = 0;
             v38 = v24;
-            v36 = 0;
             do {
                 v39 = (uint64_t)get8(v16 + v37);
                 if ((v37 - v36) < v35) {
@@ -11154,7 +11054,7 @@ static uint32_t sedge_ground_advance_at(uint64_t ground)
 static uint32_t sedge_ground_bypass_at(uint64_t ground, uint32_t map, uint64_t octets, uint64_t count)
 {
     unsigned char frame_octets[16 + 15];
-    uint32_t v3, v6;
+    uint32_t v3, answer;
     uint64_t v4, node, v2;
     v4 = aligned(frame_octets);
     node = get64(ground /* node */);
@@ -11164,40 +11064,40 @@ static uint32_t sedge_ground_bypass_at(uint64_t ground, uint32_t map, uint64_t o
     v2 = (uint64_t)get8(v4 + 9);
     v3 = get8(v4 + 8);
     put64(ground /* node */, node);
-    v6 = ((v3 & 1) != 0) ? (uint32_t)(0xa060504030201ULL >> ((v2 << 3) & 63)) : 0U;
-    return v6;
+    answer = ((v3 & 1) != 0) ? (uint32_t)(0xa060504030201ULL >> ((v2 << 3) & 63)) : SEDGE_NODE_OK;
+    return answer;
 }
 
 /* sedge_ground_clcw, crates/sedgechisel_nodes/src/ground_telemetry.rt:162 */
 static uint32_t sedge_ground_clcw_at(uint64_t ground, uint64_t octets, uint64_t count, uint64_t heard)
 {
     unsigned char frame_octets[16 + 15];
-    uint32_t v6, v7, v8, v9, v3, v11, new_report, v12, v10;
+    uint32_t answer, v7, v8, v9, v6, v3, new_report, v11, v10;
     uint64_t v4, node, v2;
     v4 = aligned(frame_octets);
     node = get64(ground /* node */);
     put64(ground /* node */, 0);
     if (node == 0) return SEDGE_NODE_NONE;
-    v6 = SEDGE_NODE_ABSENT;
+    answer = SEDGE_NODE_ABSENT;
     if (count != 4) {
         put64(ground /* node */, node);
-        return v6;
+        return answer;
     }
     v2 = some(octets);
     v7 = get8(v2 + 3);
     v8 = get8(v2 + 2);
     v9 = get8(v2 + 1);
-    v3 = extend32(get8(v2), 0x80);
+    v6 = extend32(get8(v2), 0x80);
     put32(v4 + 12, 0);
     put32(v4 + 4, 0);
     put16(v4 + 8, 0);
-    if (v3 > 0x7fffffffU) {
+    if (v6 > 0x7fffffffU) {
         put32(v4 + 5, 0);
         put8(v4 + 4, 1);
         put8(v4 + 9, 0);
-    } else if (v3 >= 32) {
+    } else if (v6 >= 32) {
         put16(v4 + 4, 257);
-    } else if ((v3 & 3) != 1) {
+    } else if ((v6 & 3) != 1) {
         put16(v4 + 4, 513);
     } else if ((v9 & 3) != 0) {
         put16(v4 + 4, 769);
@@ -11208,22 +11108,22 @@ static uint32_t sedge_ground_clcw_at(uint64_t ground, uint64_t octets, uint64_t 
         put8(v4 + 7, v8 & 248);
         put8(v4 + 8, (v8 >> 1) & 3);
         put8(v4 + 6, (v9 & 252) >> 2);
-        put8(v4 + 5, (v3 & 252) >> 2);
+        put8(v4 + 5, (v6 & 252) >> 2);
     }
     nodes_ground_node_Ground_report(v4 + 12, node, v4 + 4);
-    v11 = get8(v4 + 13);
+    v3 = get8(v4 + 13);
     new_report = get8(v4 + 12);
-    v12 = get8(v4 + 14);
+    v11 = get8(v4 + 14);
     v10 = get8(v4 + 15);
-    v6 = SEDGE_NODE_OK;
+    answer = SEDGE_NODE_OK;
     put8(heard + 15, 0);
-    put8(heard + 14 /* alert */, (v12 != 0) ? (v10 + 1) : 0U);
-    put8(heard + 13 /* word_fault */, (new_report == SEDGE_REPORT_REFUSED) ? (v11 + 1) : 0U);
+    put8(heard + 14 /* alert */, (v11 != 0) ? (v10 + 1) : 0U);
+    put8(heard + 13 /* word_fault */, (new_report == SEDGE_REPORT_REFUSED) ? (v3 + 1) : 0U);
     put8(heard + 12 /* report */, new_report);
     put32(heard + 8 /* kind, fault, first, missing */, 4);
     put64(heard /* packets */, 0);
     put64(ground /* node */, node);
-    return v6;
+    return answer;
 }
 
 /* sedge_ground_close, crates/sedgechisel_nodes/src/handles.rt:83 */
@@ -11245,7 +11145,7 @@ static void sedge_ground_close_at(uint64_t ground)
 static uint32_t sedge_ground_directive_at(uint64_t ground, uint32_t directive, uint32_t value)
 {
     unsigned char frame_octets[16 + 15];
-    uint32_t v4, v5, v6, v7, v2, v9, v8;
+    uint32_t v4, v5, v6, v7, v2, v9, answer;
     uint64_t v3, node;
     v3 = aligned(frame_octets);
     v4 = 0;
@@ -11260,14 +11160,10 @@ static uint32_t sedge_ground_directive_at(uint64_t ground, uint32_t directive, u
     case SEDGE_INIT_WITHOUT_CHECK:
         break;
     case SEDGE_INIT_WITH_CHECK:
-        v2 = 0;
         v9 = 1;
-        v4 = 0;
         break;
     case SEDGE_INIT_UNLOCK:
-        v2 = 0;
         v9 = 2;
-        v4 = 0;
         break;
     case SEDGE_INIT_SET_VR:
         if (v6 == 0) return SEDGE_DAMAGED;
@@ -11275,9 +11171,7 @@ static uint32_t sedge_ground_directive_at(uint64_t ground, uint32_t directive, u
         v2 = v7;
         break;
     case SEDGE_TERMINATE:
-        v2 = 0;
         v9 = 4;
-        v4 = 0;
         break;
     case SEDGE_SET_VS:
         if (v6 == 0) return SEDGE_DAMAGED;
@@ -11294,7 +11188,6 @@ static uint32_t sedge_ground_directive_at(uint64_t ground, uint32_t directive, u
         break;
     case SEDGE_SET_TIMER:
         v9 = 8;
-        v2 = 0;
         v4 = value;
         break;
     default:
@@ -11308,8 +11201,8 @@ static uint32_t sedge_ground_directive_at(uint64_t ground, uint32_t directive, u
     if (node == 0) return SEDGE_DAMAGED;
     nodes_ground_node_Ground_directive(v3 + 8, node, v3 + 12);
     put64(ground /* node */, node);
-    v8 = (get8(v3 + 8) != 0) ? (get8(v3 + 9) + 1) : 0U;
-    return v8;
+    answer = (get8(v3 + 8) != 0) ? (get8(v3 + 9) + 1) : SEDGE_NODE_OK;
+    return answer;
 }
 
 /* sedge_ground_forget_telemetry, crates/sedgechisel_nodes/src/ground_telemetry.rt:184 */
@@ -11500,7 +11393,7 @@ l2:;
 static uint32_t sedge_ground_resume_at(uint64_t ground, uint32_t value, uint64_t whole)
 {
     unsigned char frame_octets[16 + 15];
-    uint32_t v2;
+    uint32_t answer;
     uint64_t v3, node;
     v3 = aligned(frame_octets);
     node = get64(ground /* node */);
@@ -11511,41 +11404,41 @@ static uint32_t sedge_ground_resume_at(uint64_t ground, uint32_t value, uint64_t
     nodes_ground_node_Ground_resume(v3, node, value);
     if (get8(v3) == 0) {
         put64(whole, get64(v3 + 8));
-        v2 = SEDGE_NODE_OK;
+        answer = SEDGE_NODE_OK;
     } else {
-        v2 = (uint32_t)(0xa060504030201ULL >> (((uint64_t)get8(v3 + 1) << 3) & 63));
+        answer = (uint32_t)(0xa060504030201ULL >> (((uint64_t)get8(v3 + 1) << 3) & 63));
     }
     put64(ground /* node */, node);
-    return v2;
+    return answer;
 }
 
 /* sedge_ground_submit, crates/sedgechisel_nodes/src/ground.rt:34 */
 static uint32_t sedge_ground_submit_at(uint64_t ground, uint32_t map, uint64_t octets, uint64_t count)
 {
     unsigned char frame_octets[128 + 15];
-    uint32_t v6;
+    uint32_t answer;
     uint64_t v4, node;
     v4 = aligned(frame_octets);
     node = get64(ground /* node */);
     put64(ground /* node */, 0);
     if (node == 0) return SEDGE_NODE_NONE;
-    v6 = SEDGE_NODE_OK;
+    answer = SEDGE_NODE_OK;
     fill(v4, 0, 128);
     nodes_ground_node_Ground_prepare(v4, node, map, some(octets), count);
     if (get8(v4) == 0) {
         nodes_ground_node_Ground_commit(node, v4 + 8);
     } else {
-        v6 = (uint32_t)(0xa060504030201ULL >> (((uint64_t)get8(v4 + 1) << 3) & 63));
+        answer = (uint32_t)(0xa060504030201ULL >> (((uint64_t)get8(v4 + 1) << 3) & 63));
     }
     put64(ground /* node */, node);
-    return v6;
+    return answer;
 }
 
 /* sedge_ground_take_telemetry, crates/sedgechisel_nodes/src/ground_take.rt:149 */
 static uint32_t sedge_ground_take_telemetry_at(uint64_t ground, uint64_t out, uint64_t room, uint64_t count)
 {
     unsigned char frame_octets[16 + 15];
-    uint32_t v6;
+    uint32_t answer;
     uint64_t v4, node, v7, v8, v9, v10, v11, v12, v13, v2, v14, v3, v15, v16, v17, v18, v19, v20, v21, v22, v23, v24,
         v25, v26, v27, v28, v29, v30;
     v4 = aligned(frame_octets);
@@ -11565,9 +11458,9 @@ static uint32_t sedge_ground_take_telemetry_at(uint64_t ground, uint64_t out, ui
     }
     v9 = get64(v8 + 8);
     if (room < v9) {
-        v6 = SEDGE_NODE_ROOM;
+        answer = SEDGE_NODE_ROOM;
         put64(ground /* node */, node);
-        return v6;
+        return answer;
     }
     v10 = (out == 0) ? 0x1000ULL : 0ULL;
     v11 = out + v10;
@@ -11577,7 +11470,6 @@ static uint32_t sedge_ground_take_telemetry_at(uint64_t ground, uint64_t out, ui
         v2 = 0;
         if (v9 >= 4) {
             v14 = v9 & ~3ULL;
-            v2 = 0;
             do {
                 v3 = v11 + v2;
                 v15 = v12 + v2;
@@ -11625,9 +11517,9 @@ l4:;
             v19 = get64(node + 344);
         }
         if (v19 == 0) {
-            v6 = SEDGE_NODE_OK;
+            answer = SEDGE_NODE_OK;
             put64(ground /* node */, node);
-            return v6;
+            return answer;
         }
     }
     v28 = node + 368;
@@ -11639,18 +11531,18 @@ l4:;
     }
     put64(node + 344, v19 - 1);
     put64(node + 360, v29 + 1);
-    v6 = SEDGE_NODE_OK;
+    answer = SEDGE_NODE_OK;
     v30 = get64(node + 336) + (v29 * 24);
     if (get64(v30 + 16) != 0) rattle_dealloc_at(get64(v30));
     put64(ground /* node */, node);
-    return v6;
+    return answer;
 }
 
 /* sedge_ground_telemetry, crates/sedgechisel_nodes/src/ground_telemetry.rt:109 */
 static uint32_t sedge_ground_telemetry_at(uint64_t ground, uint64_t octets, uint64_t count, uint64_t heard)
 {
     unsigned char frame_octets[32 + 15];
-    uint32_t v6, new_kind, v8, new_fault, new_first, new_missing, new_report, new_word_fault, new_alert, v7;
+    uint32_t answer, new_kind, v8, new_fault, new_first, new_missing, new_report, new_word_fault, new_alert, v7;
     uint64_t v4, node, new_packets;
     v4 = aligned(frame_octets);
     node = get64(ground /* node */);
@@ -11661,9 +11553,9 @@ static uint32_t sedge_ground_telemetry_at(uint64_t ground, uint64_t octets, uint
     put64(v4, 0);
     if (node == 0) return SEDGE_NODE_NONE;
     nodes_ground_node_Ground_telemetry(v4, node, some(octets), count);
-    v6 = SEDGE_NODE_MEMORY;
+    answer = SEDGE_NODE_MEMORY;
     if (get8(v4) == 0) {
-        v6 = SEDGE_NODE_OK;
+        answer = SEDGE_NODE_OK;
         new_kind = SEDGE_HEARD_FOREIGN;
         new_packets = 0;
         v8 = get8(v4 + 9);
@@ -11677,10 +11569,9 @@ static uint32_t sedge_ground_telemetry_at(uint64_t ground, uint64_t octets, uint
         case 1:
             break;
         case 2:
-            new_fault = 0;
             new_report = get8(v4 + 24);
             new_word_fault = (new_report == SEDGE_REPORT_REFUSED) ? (get8(v4 + 25) + 1) : 0U;
-            new_alert = (get8(v4 + 26) != 0) ? (get8(v4 + 27) + 1) : 0U;
+            new_alert = (get8(v4 + 26) != 0) ? (get8(v4 + 27) + 1) : SEDGE_NO_ALERT;
             v7 = v8 & 255;
             new_missing = (v7 != 0) ? get8(v4 + 10) : 0U;
             new_first = v7 == 0;
@@ -11690,11 +11581,6 @@ static uint32_t sedge_ground_telemetry_at(uint64_t ground, uint64_t octets, uint
         default:
             new_kind = SEDGE_HEARD_INVALID;
             new_fault = v8 + 1;
-            new_first = 0;
-            new_missing = 0;
-            new_report = SEDGE_REPORT_USED;
-            new_word_fault = 0;
-            new_alert = SEDGE_NO_ALERT;
             break;
         }
         put8(heard + 15, 0);
@@ -11708,14 +11594,14 @@ static uint32_t sedge_ground_telemetry_at(uint64_t ground, uint64_t octets, uint
         put64(heard /* packets */, new_packets);
     }
     put64(ground /* node */, node);
-    return v6;
+    return answer;
 }
 
 /* sedge_ground_tick, crates/sedgechisel_nodes/src/ground_telemetry.rt:219 */
 static uint32_t sedge_ground_tick_at(uint64_t ground)
 {
     unsigned char frame_octets[16 + 15];
-    uint32_t v3, v4, v5;
+    uint32_t v3, v4, answer;
     uint64_t v1, node;
     v1 = aligned(frame_octets);
     node = get64(ground /* node */);
@@ -11725,8 +11611,8 @@ static uint32_t sedge_ground_tick_at(uint64_t ground)
     v3 = get8(v1 + 8);
     v4 = get8(v1 + 9);
     put64(ground /* node */, node);
-    v5 = (v3 != 0) ? (v4 + 1) : 0U;
-    return v5;
+    answer = (v3 != 0) ? (v4 + 1) : SEDGE_NO_ALERT;
+    return answer;
 }
 
 /* sedge_sim_close, crates/sedgechisel_nodes/src/handles.rt:233 */
@@ -11777,12 +11663,12 @@ static uint32_t sedge_sim_count_at(uint64_t sim, uint32_t record, uint32_t map, 
 static uint32_t sedge_sim_entry_at(uint64_t sim, uint32_t record, uint32_t map, uint64_t k, uint64_t out, uint64_t
     room, uint64_t count)
 {
-    uint32_t v8;
+    uint32_t answer;
     uint64_t link, v9, v10, v2, v3, v4, v5, v11, v12, v13, v14, v6, v16, v15, v17, v18, v19, v20;
     link = get64(sim /* link */);
     put64(sim /* link */, 0);
     if (link == 0) return SEDGE_NODE_NONE;
-    v8 = SEDGE_NODE_ABSENT;
+    answer = SEDGE_NODE_ABSENT;
     switch (record & 255) {
     case SEDGE_SUBMITTED:
         if ((map & 255) > 63) {
@@ -11816,7 +11702,7 @@ static uint32_t sedge_sim_entry_at(uint64_t sim, uint32_t record, uint32_t map, 
         return SEDGE_NODE_ABSENT;
     }
     if (k < v10) {
-        v8 = SEDGE_NODE_ROOM;
+        answer = SEDGE_NODE_ROOM;
         v5 = v2 + (k * 24);
         v11 = get64(v5 + 8);
         if (room >= v11) {
@@ -11838,7 +11724,6 @@ static uint32_t sedge_sim_entry_at(uint64_t sim, uint32_t record, uint32_t map, 
             v16 = 0;
             if (v11 >= 4) {
                 v15 = v11 & ~3ULL;
-                v16 = 0;
                 do {
                     v17 = v13 + v16;
                     v18 = v14 + v16;
@@ -11868,7 +11753,7 @@ static uint32_t sedge_sim_entry_at(uint64_t sim, uint32_t record, uint32_t map, 
         }
     }
     put64(sim /* link */, link);
-    return v8;
+    return answer;
 }
 
 /* sedge_sim_ground_read, crates/sedgechisel_nodes/src/sim/readings.rt:76 */
@@ -11969,7 +11854,6 @@ static uint32_t sedge_sim_octets_at(uint64_t sim, uint64_t out, uint64_t room, u
     v10 = 0;
     if (v5 >= 4) {
         v11 = v5 & ~3ULL;
-        v10 = 0;
         do {
             v2 = v7 + v10;
             v12 = v8 + v10;
@@ -12093,13 +11977,14 @@ static uint32_t sedge_sim_spacecraft_read_at(uint64_t sim, uint64_t read)
 static uint32_t sedge_sim_step_at(uint64_t sim, uint64_t event, uint64_t reply)
 {
     unsigned char frame_octets[96 + 15];
-    uint32_t v4, v6, v11, v10, v7, value, v8, v9, v47, v48, v12, v13, v14, v15, v16, v17, v18, v19, v20, v21, v22,
-        new_status, new_vcid, new_flags, new_farm_b, new_value, new_kind, new_fault, new_n, new_verdict, new_dropped,
-        new_kept, new_command, new_vr, new_kind_2, new_fault_2, new_first, new_missing, new_report, new_word_fault,
-        new_alert, new_kind_3, new_by, new_fault_3, new_alert_2, new_map, v50, v51, v52;
-    uint64_t v3, v5, link, v2, v49, new_whole, v24, new_count, new_ready, new_packets, v53, v26, v54, v34;
+    uint32_t value_now, map, v11, v10, v7, v6, map_2, value, v8, v9, value_2, v4, answer, v12, v13, v14, v15, v16,
+        v17, v18, v19, v20, v21, v22, new_status, new_vcid, new_flags, new_farm_b, new_value, new_kind, new_fault,
+        new_n, new_verdict, new_dropped, new_kept, new_command, new_vr, new_kind_2, new_fault_2, new_first,
+        new_missing, new_report, new_word_fault, new_alert, new_kind_3, new_by, new_fault_3, new_alert_2, new_map,
+        v48, v49, v50;
+    uint64_t v3, v5, link, v2, v47, new_whole, v24, new_count, new_ready, new_packets, v51, v26, v52, v34;
     v3 = aligned(frame_octets);
-    v4 = 0;
+    value_now = 0;
     put16(v3 + 64, 0);
     put64(v3 + 56, 0);
     put64(v3 + 48, 0);
@@ -12108,17 +11993,18 @@ static uint32_t sedge_sim_step_at(uint64_t sim, uint64_t event, uint64_t reply)
     case 1:
         put64(v3 + 50, get64(v5));
         put64(v3 + 58, get64(v5 + 8));
-        v6 = get8(event + 1 /* map */);
-        v4 = 0;
+        map = get8(event + 1 /* map */);
         v11 = 0;
         v10 = 0;
         v7 = 0;
+        v6 = map;
         goto l2;
     case 2:
         put64(v3 + 50, get64(v5));
         put64(v3 + 58, get64(v5 + 8));
-        v6 = get8(event + 1 /* map */);
+        map_2 = get8(event + 1 /* map */);
         v7 = 1;
+        v6 = map_2;
         break;
     case 3:
         value = get16(event + 4 /* value */);
@@ -12127,28 +12013,21 @@ static uint32_t sedge_sim_step_at(uint64_t sim, uint64_t event, uint64_t reply)
         v6 = 0;
         v10 = 0;
         v11 = 0;
-        v4 = 0;
         switch (get8(event + 2 /* directive */)) {
         case 1:
             goto l3;
         case 2:
-            v11 = 0;
             v10 = 1;
-            v4 = 0;
             goto l3;
         case 3:
-            v11 = 0;
             v10 = 2;
-            v4 = 0;
             goto l3;
         case 4:
             if (v8 == 0) return SEDGE_DAMAGED;
             v10 = 3;
             goto l4;
         case 5:
-            v11 = 0;
             v10 = 4;
-            v4 = 0;
             goto l3;
         case 6:
             if (v8 == 0) return SEDGE_DAMAGED;
@@ -12161,9 +12040,8 @@ static uint32_t sedge_sim_step_at(uint64_t sim, uint64_t event, uint64_t reply)
             v10 = 7;
             goto l4;
         case 9:
-            v11 = 0;
             v10 = 8;
-            v4 = value;
+            value_now = value;
             goto l3;
         default:
             return SEDGE_DAMAGED;
@@ -12172,83 +12050,81 @@ static uint32_t sedge_sim_step_at(uint64_t sim, uint64_t event, uint64_t reply)
         put64(v3 + 58, 0);
         put64(v3 + 50, 0);
         v7 = 4;
-        goto l6;
+        goto l5;
     case 5:
         put64(v3 + 58, 0);
         put64(v3 + 50, 0);
         v7 = 5;
-        goto l6;
+        goto l5;
     case 6:
         put64(v3 + 58, 0);
         put64(v3 + 50, 0);
         v7 = 6;
-        goto l6;
+        goto l5;
     case 7:
         put64(v3 + 58, get64(v5 + 8));
         put64(v3 + 50, get64(v5));
         v7 = 7;
-        goto l6;
+        goto l5;
     case 8:
         put64(v3 + 58, 0);
         put64(v3 + 50, 0);
         v7 = 8;
-        goto l6;
+        goto l5;
     case 9:
         put64(v3 + 58, 0);
         put64(v3 + 50, 0);
         v7 = 9;
-        goto l6;
+        goto l5;
     case 10:
         put64(v3 + 58, 0);
         put64(v3 + 50, 0);
         v7 = 10;
-        goto l6;
+        goto l5;
     case 11:
         put64(v3 + 58, get64(v5 + 8));
         put64(v3 + 50, get64(v5));
         v7 = 11;
-        goto l6;
+        goto l5;
     case 12:
         put64(v3 + 58, 0);
         put64(v3 + 50, 0);
         v7 = 13;
-        goto l6;
+        goto l5;
     case 13:
         put64(v3 + 58, 0);
         put64(v3 + 50, 0);
         v7 = 14;
-        goto l6;
+        goto l5;
     case 14:
         put64(v3 + 58, 0);
         put64(v3 + 50, 0);
         v7 = 15;
-        goto l6;
+        goto l5;
     case 15:
         put64(v3 + 58, get64(v5 + 8));
         put64(v3 + 50, get64(v5));
         v7 = 16;
-        goto l6;
+        goto l5;
     case 16:
         put64(v3 + 58, 0);
         put64(v3 + 50, 0);
         v7 = 12;
         goto l5;
     case 17:
-        v6 = get16(event + 4 /* value */);
-        if (v6 > 255) return SEDGE_DAMAGED;
+        value_2 = get16(event + 4 /* value */);
+        if (value_2 > 255) return SEDGE_DAMAGED;
         put64(v3 + 58, 0);
         put64(v3 + 50, 0);
         v7 = 3;
+        v6 = value_2;
         break;
     default:
         return SEDGE_DAMAGED;
     }
-    v4 = 0;
     v11 = 0;
     v10 = 0;
     goto l2;
-l6:;
-    v4 = 0;
 l5:;
     v11 = 0;
     v10 = 0;
@@ -12256,7 +12132,6 @@ l5:;
     goto l2;
 l4:;
     v11 = v9;
-    v4 = 0;
 l3:;
     put64(v3 + 58, 0);
     put64(v3 + 50, 0);
@@ -12277,16 +12152,16 @@ l2:;
     put8(v3 + 25, v6);
     put8(v3 + 26, v10);
     put8(v3 + 27, v11);
-    put16(v3 + 28, v4);
+    put16(v3 + 28, value_now);
     v2 = v3 + 8;
     put64(v3 + 32, get64(v2));
     put64(v3 + 40, get64(v2 + 8));
     simulated_link_world_World_step(v3 + 48, link, v3 + 24);
-    v47 = get8(v3 + 56);
+    v4 = get8(v3 + 56);
     if (get8(v3 + 48) != 0) {
-        v48 = v47 + 6;
+        answer = v4 + 6;
         put64(sim /* link */, link);
-        return v48;
+        return answer;
     }
     v12 = get8(v3 + 83);
     v13 = get8(v3 + 82);
@@ -12296,10 +12171,10 @@ l2:;
     v17 = get8(v3 + 59);
     v18 = get8(v3 + 58);
     v19 = get8(v3 + 57);
-    v49 = get64(v3 + 64);
-    v20 = (uint32_t)(v49 >> 16);
-    v21 = (uint32_t)(v49 >> 8);
-    v22 = (uint32_t)v49;
+    v47 = get64(v3 + 64);
+    v20 = (uint32_t)(v47 >> 16);
+    v21 = (uint32_t)(v47 >> 8);
+    v22 = (uint32_t)v47;
     new_whole = 0;
     new_status = 0;
     new_vcid = 0;
@@ -12325,53 +12200,39 @@ l2:;
     new_report = 0;
     new_word_fault = 0;
     new_alert = SEDGE_NO_ALERT;
-    new_kind_3 = v47;
+    new_kind_3 = v4;
     new_by = 0;
     new_fault_3 = 0;
     new_alert_2 = SEDGE_NO_ALERT;
     new_map = 0;
-    switch (v47) {
+    switch (v4) {
     case 1:
     case 2:
         new_count = 0;
-        new_status = 0;
-        new_vcid = 0;
-        new_flags = 0;
-        new_farm_b = 0;
-        new_value = 0;
-        goto l40;
+        goto l36;
     case 3:
+        switch (v19) {
+        case 1:
+            new_fault_3 = v18 + 1;
+            new_by = SEDGE_BY_SENDER;
+            break;
+        case 2:
+            new_fault_3 = v18 + 1;
+            new_kind_3 = SEDGE_REPLY_REFUSED;
+            new_count = 0;
+            new_by = SEDGE_BY_TELEMETRY;
+            goto l36;
+        default:
+            new_fault_3 = (uint32_t)(0xa060504030201ULL >> ((((uint64_t)v18 & 255) << 3) & 63));
+            new_by = SEDGE_BY_NODE;
+            break;
+        }
         break;
     case 4:
         new_alert_2 = v19 + 1;
         new_kind_3 = SEDGE_REPLY_ALERT;
         new_count = 0;
-        new_status = 0;
-        new_vcid = 0;
-        new_flags = 0;
-        new_farm_b = 0;
-        new_value = 0;
-        new_whole = 0;
-        new_ready = 0;
-        new_kind = SEDGE_REPLY_DONE;
-        new_fault = 0;
-        new_n = 0;
-        new_verdict = 0;
-        new_dropped = 0;
-        new_kept = 0;
-        new_command = 0;
-        new_vr = 0;
-        new_packets = 0;
-        new_kind_2 = SEDGE_REPLY_DONE;
-        new_fault_2 = 0;
-        new_first = 0;
-        new_missing = 0;
-        new_report = 0;
-        new_word_fault = 0;
-        new_alert = SEDGE_NO_ALERT;
-        new_by = 0;
-        new_fault_3 = 0;
-        goto l37;
+        goto l36;
     case 5:
         goto l36;
     case 6:
@@ -12381,391 +12242,86 @@ l2:;
         new_vcid = v18;
         new_flags = v17;
         new_farm_b = v16;
-        goto l40;
+        goto l36;
     case 7:
         new_kind_3 = SEDGE_REPLY_UP;
         new_kind = SEDGE_REPLY_LOST;
         new_count = 0;
-        new_status = 0;
-        new_vcid = 0;
-        new_flags = 0;
-        new_farm_b = 0;
-        new_value = 0;
-        new_whole = 0;
-        new_ready = 0;
-        new_fault = 0;
-        new_n = 0;
-        new_verdict = 0;
-        new_dropped = 0;
-        new_kept = 0;
-        new_command = 0;
-        new_vr = 0;
-        new_packets = 0;
-        new_kind_2 = SEDGE_REPLY_DONE;
-        new_fault_2 = 0;
-        new_first = 0;
-        new_missing = 0;
-        new_report = 0;
-        new_word_fault = 0;
-        new_alert = SEDGE_NO_ALERT;
-        new_by = 0;
-        new_fault_3 = 0;
-        new_alert_2 = SEDGE_NO_ALERT;
-        new_map = 0;
         switch ((uint32_t)((uint64_t)v22 & 255)) {
         case 1:
             goto l36;
         case 2:
-            new_status = 0;
             new_dropped = ((v15 & 255) != 0) ? (v14 + 1) : 0U;
             new_kind = SEDGE_REPLY_REFUSED;
-            new_vcid = 0;
-            new_flags = 0;
-            new_farm_b = 0;
-            new_value = 0;
-            new_whole = 0;
             new_ready = v24;
-            new_fault = 0;
             new_n = v21;
             new_verdict = v20;
-            goto l44;
+            goto l36;
         case 3:
             new_kept = v21 & 1;
             new_kind = SEDGE_REPLY_ALERT;
-            new_status = 0;
-            new_vcid = 0;
-            new_flags = 0;
-            new_farm_b = 0;
-            new_value = 0;
-            new_whole = 0;
-            new_ready = 0;
-            new_fault = 0;
-            new_n = 0;
-            new_verdict = 0;
-            new_dropped = 0;
-            goto l43;
+            goto l36;
         case 4:
-            new_status = 0;
-            v50 = v21 & 255;
-            new_vr = (v50 != 0) ? v20 : 0U;
-            new_command = v50 != 0;
+            v48 = v21 & 255;
+            new_vr = (v48 != 0) ? v20 : 0U;
+            new_command = v48 != 0;
             new_kind = SEDGE_REPLY_SENT;
             new_vcid = 0;
-            new_flags = 0;
-            new_farm_b = 0;
-            new_value = 0;
-            new_whole = 0;
-            new_ready = 0;
-            new_fault = 0;
-            new_n = 0;
-            new_verdict = 0;
-            new_dropped = 0;
-            new_kept = 0;
-            goto l42;
+            goto l36;
         default:
             new_kind = SEDGE_REPLY_NOTHING;
             new_fault = v21 + 1;
-            new_status = 0;
-            new_vcid = 0;
-            new_flags = 0;
-            new_farm_b = 0;
-            new_value = 0;
-            new_whole = 0;
-            new_ready = 0;
-            goto l45;
+            goto l36;
         }
     case 8:
         new_kind_3 = SEDGE_REPLY_DOWN;
         new_kind_2 = SEDGE_REPLY_LOST;
         new_count = 0;
-        new_status = 0;
-        new_vcid = 0;
-        new_flags = 0;
-        new_farm_b = 0;
-        new_value = 0;
-        new_whole = 0;
-        new_ready = 0;
-        new_kind = SEDGE_REPLY_DONE;
-        new_fault = 0;
-        new_n = 0;
-        new_verdict = 0;
-        new_dropped = 0;
-        new_kept = 0;
-        new_command = 0;
-        new_vr = 0;
-        new_packets = 0;
-        new_fault_2 = 0;
-        new_first = 0;
-        new_missing = 0;
-        new_report = 0;
-        new_word_fault = 0;
-        new_alert = SEDGE_NO_ALERT;
-        new_by = 0;
-        new_fault_3 = 0;
-        new_alert_2 = SEDGE_NO_ALERT;
-        new_map = 0;
         switch ((uint32_t)((uint64_t)v22 & 255)) {
         case 1:
             goto l36;
         case 2:
-            new_status = 0;
-            new_alert = ((v13 & 255) != 0) ? (v12 + 1) : 0U;
+            new_alert = ((v13 & 255) != 0) ? (v12 + 1) : SEDGE_NO_ALERT;
             new_word_fault = ((v15 & 255) == 1) ? (v14 + 1) : 0U;
-            v51 = v21 & 255;
-            new_missing = (v51 != 0) ? v20 : 0U;
-            new_first = v51 == 0;
+            v49 = v21 & 255;
+            new_missing = (v49 != 0) ? v20 : 0U;
+            new_first = v49 == 0;
             new_kind_2 = SEDGE_REPLY_REFUSED;
             new_vcid = 0;
-            new_flags = 0;
-            new_farm_b = 0;
-            new_value = 0;
-            new_whole = 0;
-            new_ready = 0;
-            new_kind = SEDGE_REPLY_DONE;
-            new_fault = 0;
-            new_n = 0;
-            new_verdict = 0;
-            new_dropped = 0;
-            new_kept = 0;
-            new_command = 0;
-            new_vr = 0;
             new_packets = v24;
-            new_fault_2 = 0;
             new_report = v15;
-            goto l39;
+            goto l36;
         default:
             new_kind_2 = SEDGE_REPLY_NOTHING;
             new_fault_2 = v21 + 1;
-            new_status = 0;
-            new_vcid = 0;
-            new_flags = 0;
-            new_farm_b = 0;
-            new_value = 0;
-            new_whole = 0;
-            new_ready = 0;
-            new_kind = SEDGE_REPLY_DONE;
-            new_fault = 0;
-            new_n = 0;
-            new_verdict = 0;
-            new_dropped = 0;
-            new_kept = 0;
-            new_command = 0;
-            new_vr = 0;
-            new_packets = 0;
-            goto l41;
+            goto l36;
         }
     case 9:
-        new_status = 0;
-        new_alert = ((v17 & 255) != 0) ? (v16 + 1) : 0U;
+        new_alert = ((v17 & 255) != 0) ? (v16 + 1) : SEDGE_NO_ALERT;
         new_word_fault = (v19 == 1) ? (v18 + 1) : 0U;
         new_kind_3 = SEDGE_REPLY_DOWN_CLCW;
         new_kind_2 = SEDGE_REPLY_ALERT;
         new_count = 0;
-        new_vcid = 0;
-        new_flags = 0;
-        new_farm_b = 0;
-        new_value = 0;
-        new_whole = 0;
-        new_ready = 0;
-        new_kind = SEDGE_REPLY_DONE;
-        new_fault = 0;
-        new_n = 0;
-        new_verdict = 0;
-        new_dropped = 0;
-        new_kept = 0;
-        new_command = 0;
-        new_vr = 0;
-        new_packets = 0;
-        new_fault_2 = 0;
-        new_first = 0;
-        new_missing = 0;
         new_report = v19;
-        goto l39;
+        goto l36;
     case 10:
         new_kind_3 = SEDGE_REPLY_RESUMED;
         new_count = 0;
-        new_status = 0;
-        new_vcid = 0;
-        new_flags = 0;
-        new_farm_b = 0;
-        new_value = 0;
-        new_whole = v49;
-        new_ready = 0;
-        new_kind = SEDGE_REPLY_DONE;
-        new_fault = 0;
-        goto l45;
+        new_whole = v47;
+        goto l36;
     case 11:
         new_kind_3 = SEDGE_REPLY_PACKET;
-        new_status = 0;
-        new_vcid = 0;
-        new_flags = 0;
-        new_farm_b = 0;
-        new_value = 0;
-        new_count = v24;
-        new_ready = 0;
-        new_kind = SEDGE_REPLY_DONE;
-        new_fault = 0;
-        new_n = 0;
-        new_verdict = 0;
-        new_dropped = 0;
-        new_kept = 0;
-        new_command = 0;
-        new_vr = 0;
-        new_packets = 0;
-        new_kind_2 = SEDGE_REPLY_DONE;
-        new_fault_2 = 0;
-        new_first = 0;
-        new_missing = 0;
-        new_report = 0;
-        new_word_fault = 0;
-        new_alert = SEDGE_NO_ALERT;
-        new_by = 0;
-        new_fault_3 = 0;
-        new_alert_2 = SEDGE_NO_ALERT;
         new_map = v19;
         goto l36;
     default:
         new_count = 0;
-        new_status = 0;
-        new_vcid = 0;
-        new_flags = 0;
-        new_farm_b = 0;
-        new_value = 0;
-        new_whole = 0;
-        new_ready = 0;
-        new_kind = SEDGE_REPLY_DONE;
-        new_fault = 0;
-        new_n = 0;
-        new_verdict = 0;
-        new_dropped = 0;
-        new_kept = 0;
-        new_command = 0;
-        new_vr = 0;
-        new_packets = 0;
-        new_kind_2 = SEDGE_REPLY_DONE;
-        new_fault_2 = 0;
-        new_first = 0;
-        new_missing = 0;
-        new_report = 0;
-        new_word_fault = 0;
-        new_alert = SEDGE_NO_ALERT;
         new_kind_3 = SEDGE_REPLY_DONE;
-        goto l39;
-    }
-    switch (v19) {
-    case 1:
-        new_fault_3 = v18 + 1;
-        new_by = SEDGE_BY_SENDER;
-        break;
-    case 2:
-        new_fault_3 = v18 + 1;
-        new_kind_3 = SEDGE_REPLY_REFUSED;
-        new_count = 0;
-        new_status = 0;
-        new_vcid = 0;
-        new_flags = 0;
-        new_farm_b = 0;
-        new_value = 0;
-        new_whole = 0;
-        new_ready = 0;
-        new_kind = SEDGE_REPLY_DONE;
-        new_fault = 0;
-        new_n = 0;
-        new_verdict = 0;
-        new_dropped = 0;
-        new_kept = 0;
-        new_command = 0;
-        new_vr = 0;
-        new_packets = 0;
-        new_kind_2 = SEDGE_REPLY_DONE;
-        new_fault_2 = 0;
-        new_first = 0;
-        new_missing = 0;
-        new_report = 0;
-        new_word_fault = 0;
-        new_alert = SEDGE_NO_ALERT;
-        new_by = SEDGE_BY_TELEMETRY;
-        goto l38;
-    default:
-        new_fault_3 = (uint32_t)(0xa060504030201ULL >> ((((uint64_t)v18 & 255) << 3) & 63));
-        new_by = SEDGE_BY_NODE;
-        break;
+        goto l36;
     }
     new_kind_3 = SEDGE_REPLY_REFUSED;
     new_count = 0;
-    new_status = 0;
-    new_vcid = 0;
-    new_flags = 0;
-    new_farm_b = 0;
-    new_value = 0;
-    new_whole = 0;
-    new_ready = 0;
-    new_kind = SEDGE_REPLY_DONE;
-    new_fault = 0;
-    new_n = 0;
-    new_verdict = 0;
-    new_dropped = 0;
-    new_kept = 0;
-    new_command = 0;
-    new_vr = 0;
-    new_packets = 0;
-    new_kind_2 = SEDGE_REPLY_DONE;
-    new_fault_2 = 0;
-    new_first = 0;
-    new_missing = 0;
-    new_report = 0;
-    new_word_fault = 0;
-    new_alert = SEDGE_NO_ALERT;
-    goto l38;
-l45:;
-    new_n = 0;
-    new_verdict = 0;
-    new_dropped = 0;
-l44:;
-    new_kept = 0;
-l43:;
-    new_command = 0;
-    new_vr = 0;
-l42:;
-    new_packets = 0;
-    new_kind_2 = SEDGE_REPLY_DONE;
-    new_fault_2 = 0;
-l41:;
-    new_first = 0;
-    new_missing = 0;
-    new_report = 0;
-    new_word_fault = 0;
-    new_alert = SEDGE_NO_ALERT;
-    goto l39;
-l40:;
-    new_whole = 0;
-    new_ready = 0;
-    new_kind = SEDGE_REPLY_DONE;
-    new_fault = 0;
-    new_n = 0;
-    new_verdict = 0;
-    new_dropped = 0;
-    new_kept = 0;
-    new_command = 0;
-    new_vr = 0;
-    new_packets = 0;
-    new_kind_2 = SEDGE_REPLY_DONE;
-    new_fault_2 = 0;
-    new_first = 0;
-    new_missing = 0;
-    new_report = 0;
-    new_word_fault = 0;
-    new_alert = SEDGE_NO_ALERT;
-    new_kind_3 = v47;
-l39:;
-    new_by = 0;
-    new_fault_3 = 0;
-l38:;
-    new_alert_2 = SEDGE_NO_ALERT;
-l37:;
-    new_map = 0;
 l36:;
-    v52 = get32(v3 + 84);
+    v50 = get32(v3 + 84);
     put8(reply + 57 /* map */, new_map);
     put8(reply + 56 /* alert */, new_alert_2);
     put8(reply + 55 /* fault */, new_fault_3);
@@ -12798,30 +12354,30 @@ l36:;
     put64(reply /* count */, new_count);
     put16(reply + 62, 0);
     put32(reply + 58, 0);
-    if (((1U << (v47 & 31)) & 0x7df) != 0) {
-        v49 = v3 + 95;
+    if (((1U << (v4 & 31)) & 0x7df) != 0) {
+        v47 = v3 + 95;
         v15 = 0;
         v24 = 0;
         v14 = 0;
         v13 = 0;
         v12 = 0;
-        v52 = 0;
+        v50 = 0;
     }
     put64(link + 0xfc0, v24);
-    v53 = link + 0xfc8;
-    v26 = get64(v53);
-    put32(link + 0xfcc, v52);
+    v51 = link + 0xfc8;
+    v26 = get64(v51);
+    put32(link + 0xfcc, v50);
     put8(link + 0xfcb, v12);
     put8(link + 0xfca, v13);
     put8(link + 0xfc9, v14);
-    put8(v53, v15);
-    v54 = link + 0xfb8;
-    v34 = get64(v54);
-    put64(v54, v49);
-    v48 = SEDGE_NODE_OK;
+    put8(v51, v15);
+    v52 = link + 0xfb8;
+    v34 = get64(v52);
+    put64(v52, v47);
+    answer = SEDGE_NODE_OK;
     if (v26 != 0) rattle_dealloc_at(v34);
     put64(sim /* link */, link);
-    return v48;
+    return answer;
 }
 
 /* sedge_sim_submission, crates/sedgechisel_nodes/src/sim/submissions.rt:64 */
@@ -12852,7 +12408,6 @@ static uint32_t sedge_sim_submission_at(uint64_t sim, uint64_t k, uint64_t map, 
         v3 = 0;
         if (v7 >= 4) {
             v13 = v7 & ~3ULL;
-            v3 = 0;
             do {
                 v4 = v10 + v3;
                 v14 = v11 + v3;
@@ -12883,21 +12438,21 @@ l4:;
 /* sedge_sim_submission_length, crates/sedgechisel_nodes/src/sim/submissions.rt:38 */
 static uint32_t sedge_sim_submission_length_at(uint64_t sim, uint64_t k, uint64_t map, uint64_t count)
 {
-    uint32_t v5;
+    uint32_t answer;
     uint64_t link, v2, v6;
     link = get64(sim /* link */);
     put64(sim /* link */, 0);
     if (link == 0) return SEDGE_NODE_NONE;
-    v5 = SEDGE_NODE_ABSENT;
+    answer = SEDGE_NODE_ABSENT;
     if (k < get64(link + 848)) {
         v2 = get64(link + 840) + (k << 5);
         v6 = get64(v2 + 16);
         put8(map, get8(v2));
         put64(count, v6);
-        v5 = SEDGE_NODE_OK;
+        answer = SEDGE_NODE_OK;
     }
     put64(sim /* link */, link);
-    return v5;
+    return answer;
 }
 
 /* sedge_sim_submissions, crates/sedgechisel_nodes/src/sim/submissions.rt:17 */
@@ -13002,8 +12557,8 @@ static uint32_t sedge_spacecraft_read_at(uint64_t spacecraft, uint64_t read)
 static uint32_t sedge_spacecraft_receive_at(uint64_t spacecraft, uint64_t octets, uint64_t count, uint64_t received)
 {
     unsigned char frame_octets[128 + 15];
-    uint32_t new_kind, v7, new_vr, new_command, new_kept, new_dropped, new_verdict, new_n, new_fault, v16, v17, v14,
-        v18, v15, t1, v3, v37, v11, v10, v13, v8, v39, v45, v46, v12, v49, v51, v52, v54, v57, v59, v75, v78, v9,
+    uint32_t new_kind, answer, new_vr, new_command, new_kept, new_dropped, new_verdict, new_n, new_fault, v16, v17,
+        v14, v18, v15, t1, v3, v37, v11, v10, v13, v8, v39, v45, v46, v12, v49, v51, v52, v54, v57, v59, v75, v78, v9,
         v102, v107, v109, v110, v123, v133, v144, t3, v158, v165, v170, v179, v180;
     uint64_t v4, node, new_ready, v2, v19, v35, v36, v38, v32, v24, v23, v20, v34, v40, v21, v41, v42, v43, v44, v47,
         v48, v50, v22, v53, v6, v55, v56, v58, v25, v26, v27, v28, v29, v30, v31, v60, v61, v33, v62, v63, v64, v65,
@@ -13020,7 +12575,7 @@ static uint32_t sedge_spacecraft_receive_at(uint64_t spacecraft, uint64_t octets
     put64(spacecraft /* node */, 0);
     if (node == 0) return SEDGE_NODE_NONE;
     new_kind = SEDGE_RECEIVED_INVALID;
-    v7 = SEDGE_NODE_OK;
+    answer = SEDGE_NODE_OK;
     if (count < 5) {
         new_vr = 0;
         new_command = SEDGE_UNLOCK;
@@ -13045,7 +12600,6 @@ static uint32_t sedge_spacecraft_receive_at(uint64_t spacecraft, uint64_t octets
         new_fault = SEDGE_TC_SPARE;
         goto l6;
     }
-    new_kind = SEDGE_RECEIVED_INVALID;
     new_fault = SEDGE_TC_LENGTH;
     v17 = get8(v2 + 2);
     v14 = ((v17 << 8) & 768) | get8(v2 + 3);
@@ -13082,22 +12636,14 @@ static uint32_t sedge_spacecraft_receive_at(uint64_t spacecraft, uint64_t octets
             switch ((uint32_t)v35) {
             case 1:
                 v36 = 0;
-                new_vr = 0;
                 if (get8(v2 + 5) != 0) {
                     new_fault = SEDGE_TC_COMMAND;
-                    new_command = SEDGE_UNLOCK;
-                    new_kept = 0;
-                    new_dropped = SEDGE_NOT_DROPPED;
-                    new_verdict = SEDGE_ACCEPTED;
-                    new_n = 0;
-                    new_ready = 0;
                     goto l4;
                 }
                 v37 = 2;
                 v11 = 0;
                 v10 = 0;
                 v38 = 0;
-                new_n = 0;
                 v13 = 0;
                 goto l12;
             case 2:
@@ -13151,9 +12697,9 @@ l12:;
                 ((((uint64_t)get8(v36 + 4) << 8) | (uint64_t)get8(v36 + 5)) + 7) == v38)) {
                 rattle_alloc_at(v4 + 80, v38, 1);
                 if (((uint32_t)get64(v4 + 80) & 1) == 0) {
-                    v7 = SEDGE_NODE_MEMORY;
+                    answer = SEDGE_NODE_MEMORY;
                     put64(spacecraft /* node */, node);
-                    return v7;
+                    return answer;
                 }
                 v24 = get64(v4 + 88);
                 if ((v24 - v36) >= v38) {
@@ -13165,7 +12711,6 @@ l12:;
                 v20 = 0;
                 if (v38 >= 4) {
                     v34 = v38 & ~3ULL;
-                    v20 = 0;
                     do {
                         v40 = v24 + v20;
                         v21 = v36 + v20;
@@ -13242,14 +12787,8 @@ l12:;
                 if (get8(v4 + 72) == 1) goto l36;
                 v58 = v53;
                 if (v38 < 6) goto l38;
-                v58 = v53;
                 v59 = get8(v36);
-                if (v59 > 31) goto l38;
-                if ((v59 & 8) != 0) {
-                    v58 = v53;
-                    if ((((v59 << 8) & 0x700) | get8(v36 + 1)) == 0x7ff) goto l38;
-                }
-                v58 = v53;
+                if (v59 > 31 || ((v59 & 8) != 0 && (((v59 << 8) & 0x700) | get8(v36 + 1)) == 0x7ff)) goto l38;
                 v25 = (((uint64_t)get8(v36 + 4) << 8) | (uint64_t)get8(v36 + 5)) + 7;
                 if (v38 >= v25) {
                     v26 = node + 184;
@@ -13355,11 +12894,11 @@ l12:;
                 rattle_dealloc_at(v84);
                 goto l24;
             l37:;
-                v7 = SEDGE_NODE_MEMORY;
+                answer = SEDGE_NODE_MEMORY;
                 v87 = get64(node + 168);
                 if (v87 <= v53) {
                     put64(spacecraft /* node */, node);
-                    return v7;
+                    return answer;
                 }
                 v88 = get64(node + 192);
                 v89 = get64(node + 184);
@@ -13399,7 +12938,7 @@ l12:;
                 put64(node + 168, v53);
                 put64(node + 160, v91);
                 put64(spacecraft /* node */, node);
-                return v7;
+                return answer;
             l36:;
                 if ((v57 & 1) == 0) {
                     v102 = 0;
@@ -13415,13 +12954,10 @@ l12:;
                 v107 = 1;
                 v108 = get64(node + 112);
                 v109 = v108 <= v56;
-                if (v109 == 0) {
-                    v107 = 1;
-                    if (get8(v105) == 1) {
-                        v106 = get64(v105 + 16);
-                        v78 = 1;
-                        v107 = 0;
-                    }
+                if (v109 == 0 && get8(v105) == 1) {
+                    v106 = get64(v105 + 16);
+                    v78 = 1;
+                    v107 = 0;
                 }
                 switch (v11) {
                 case 1:
@@ -13442,9 +12978,9 @@ l12:;
                         } else {
                             rattle_alloc_at(v4 + 24, v115 << 5, 8);
                             if (((uint32_t)get64(v4 + 24) & 1) == 0) {
-                                v7 = SEDGE_NODE_MEMORY;
+                                answer = SEDGE_NODE_MEMORY;
                                 put64(spacecraft /* node */, node);
-                                return v7;
+                                return answer;
                             }
                             v114 = get64(v4 + 32);
                             v117 = 0x800 - (v116 << 5);
@@ -13495,7 +13031,6 @@ l12:;
                             v127 = 0;
                             if (v119 >= 4) {
                                 v128 = v119 & ~3ULL;
-                                v127 = 0;
                                 do {
                                     v129 = v125 + v127;
                                     v130 = v118 + v127;
@@ -13542,7 +13077,6 @@ l12:;
                         v138 = 0;
                         if ((v38 - 1) >= 3) {
                             v139 = v38 & ~3ULL;
-                            v138 = 0;
                             do {
                                 v140 = v136 + v138;
                                 v141 = v36 + v138;
@@ -13671,14 +13205,14 @@ l12:;
                         v112 = v112 - 1;
                     } while (v112 != 0);
                 }
-                v7 = SEDGE_NODE_MEMORY;
+                answer = SEDGE_NODE_MEMORY;
                 if (v115 == 0) {
                     put64(spacecraft /* node */, node);
-                    return v7;
+                    return answer;
                 }
                 rattle_dealloc_at(v114);
                 put64(spacecraft /* node */, node);
-                return v7;
+                return answer;
             l61:;
                 if (get64(node + 112) > v56) {
                     v164 = get64(v103) + v104;
@@ -13737,9 +13271,9 @@ l12:;
                 rattle_dealloc_at(v135);
                 goto l23;
             l60:;
-                v7 = SEDGE_NODE_MEMORY;
+                answer = SEDGE_NODE_MEMORY;
                 put64(spacecraft /* node */, node);
-                return v7;
+                return answer;
             l58:;
                 v102 = 0;
                 goto l23;
@@ -13748,12 +13282,11 @@ l12:;
             v49 = 1;
             v12 = 1;
         } else {
-            v46 = 1;
             v179 = new_n - v52;
             v180 = (v51 >> 1) & 127;
             if ((v179 & 255) >= v180) {
                 if ((v179 & 255) > (~v180 & 255)) {
-                    new_verdict = ((v49 & 1) != 0) ? 5U : 3U;
+                    new_verdict = ((v49 & 1) != 0) ? SEDGE_DISCARDED : SEDGE_BEHIND;
                     v46 = 0;
                 } else {
                     new_verdict = SEDGE_OUTSIDE;
@@ -13789,7 +13322,6 @@ l25:;
         v185 = node + 216;
         v186 = get64(v185);
         if (v182 > v186) {
-            new_ready = 0;
             v187 = v184 + v186;
             v188 = get64(node + 200) + ((v187 - ((v187 < v182) ? 0ULL : v182)) << 5);
             put64(v188 + 24, v38);
@@ -13798,7 +13330,6 @@ l25:;
             put64(v188, v32);
             put64(v185, get64(v185) + 1);
             new_kind = SEDGE_RECEIVED_BD;
-            new_kept = 1;
             new_command = SEDGE_UNLOCK;
             goto l20;
         }
@@ -13820,13 +13351,11 @@ l25:;
         put64(v185, get64(v185) + 1);
         if (v197 == 0) {
             new_kind = SEDGE_RECEIVED_BD;
-            new_kept = 1;
             new_command = SEDGE_UNLOCK;
             new_dropped = SEDGE_NOT_DROPPED;
             new_verdict = SEDGE_ACCEPTED;
             new_n = 0;
             new_fault = 0;
-            new_ready = 0;
             goto l4;
         }
         v24 = v196;
@@ -13844,7 +13373,7 @@ l23:;
     put16(node + 74, 0);
     put8(node + 73, new_n + 1);
     put8(node + 72, v51);
-    new_dropped = (v78 != 0) ? (v102 + 1) : 0U;
+    new_dropped = (v78 != 0) ? (v102 + 1) : SEDGE_NOT_DROPPED;
     new_kind = SEDGE_RECEIVED_AD;
     new_command = SEDGE_UNLOCK;
     new_kept = 0;
@@ -13878,14 +13407,14 @@ l4:;
     put8(received + 8 /* kind */, new_kind);
     put64(received /* ready */, new_ready);
     put64(spacecraft /* node */, node);
-    return v7;
+    return answer;
 }
 
 /* sedge_spacecraft_telemetry, crates/sedgechisel_nodes/src/spacecraft.rt:127 */
 static uint32_t sedge_spacecraft_telemetry_at(uint64_t spacecraft, uint64_t packet, uint64_t count)
 {
     unsigned char frame_octets[16 + 15];
-    uint32_t v5, v6, v2;
+    uint32_t v5, v6, answer;
     uint64_t v3, node;
     v3 = aligned(frame_octets);
     node = get64(spacecraft /* node */);
@@ -13895,32 +13424,32 @@ static uint32_t sedge_spacecraft_telemetry_at(uint64_t spacecraft, uint64_t pack
     v5 = get8(v3 + 8);
     v6 = get8(v3 + 9);
     put64(spacecraft /* node */, node);
-    v2 = (v5 != 0) ? (v6 + 1) : 0U;
-    return v2;
+    answer = (v5 != 0) ? (v6 + 1) : SEDGE_NODE_OK;
+    return answer;
 }
 
 /* sedge_spacecraft_telemetry_frame, crates/sedgechisel_nodes/src/spacecraft_take.rt:155 */
 static uint32_t sedge_spacecraft_telemetry_frame_at(uint64_t spacecraft, uint64_t out, uint64_t room, uint64_t count)
 {
-    uint32_t v5, v2, v6, t1;
+    uint32_t answer, v5, v6, t1;
     uint64_t node, t2;
     node = get64(spacecraft /* node */);
     put64(spacecraft /* node */, 0);
     if (node == 0) return SEDGE_NODE_NONE;
-    v5 = SEDGE_NODE_ROOM;
+    answer = SEDGE_NODE_ROOM;
     if (room >= (uint64_t)get32(node + 60)) {
-        v2 = get32(node + 4);
-        if ((v2 & 192) != 0) UNREACHABLE;
+        v5 = get32(node + 4);
+        if ((v5 & 192) != 0) UNREACHABLE;
         v6 = get8(node + 77);
         if ((v6 & 255) >= 4) UNREACHABLE;
         t1 = ((((((get8(node + 75) << 4) | (v6 << 1)) | (get8(node + 74) << 5)) | (get8(node + 76) << 3)) & 254) <<
-            16) | ((v2 << 10) & 0xfc00);
+            16) | ((v5 << 10) & 0xfc00);
         t2 = tm_link_builder_TmBuilder_build_in(node + 232, (t1 | (get8(node + 73) << 24)) | 1, some(out));
         put64(count, t2);
-        v5 = SEDGE_NODE_OK;
+        answer = SEDGE_NODE_OK;
     }
     put64(spacecraft /* node */, node);
-    return v5;
+    return answer;
 }
 
 /* sedge_spacecraft_take, crates/sedgechisel_nodes/src/spacecraft_take.rt:104 */
@@ -13964,7 +13493,6 @@ static uint32_t sedge_spacecraft_take_bypass_at(uint64_t spacecraft, uint64_t ma
         v3 = 0;
         if (v9 >= 4) {
             v14 = v9 & ~3ULL;
-            v3 = 0;
             do {
                 v4 = v11 + v3;
                 v15 = v12 + v3;
@@ -14033,7 +13561,7 @@ static uint32_t sedge_ground_accepted_beyond_at(uint64_t ground, uint32_t value,
 static uint32_t sedge_ground_clcw_in_at(uint64_t ground, uint64_t octets, uint64_t count, uint64_t word)
 {
     unsigned char frame_octets[48 + 15];
-    uint32_t v6, v8, v2;
+    uint32_t v6, v8, answer;
     uint64_t v4, node, v7;
     v4 = aligned(frame_octets);
     node = get64(ground /* node */);
@@ -14055,15 +13583,15 @@ static uint32_t sedge_ground_clcw_in_at(uint64_t ground, uint64_t octets, uint64
                 put8(word /* status */, (v6 & 252) >> 2);
                 put32(word + 1 /* vcid, flags, farm_b, value */, ((((v6 >> 10) & 63) | (v6 & 0xff000000U)) | ((v6 >>
                     1) & 0x30000)) | ((v8 << 8) & 0xf800));
-                v2 = SEDGE_NODE_OK;
+                answer = SEDGE_NODE_OK;
                 put64(ground /* node */, node);
-                return v2;
+                return answer;
             }
         }
     }
-    v2 = SEDGE_NODE_ABSENT;
+    answer = SEDGE_NODE_ABSENT;
     put64(ground /* node */, node);
-    return v2;
+    return answer;
 }
 
 /* sedge_ground_known_on_board, crates/sedgechisel_nodes/src/readings.rt:189 */
@@ -14128,12 +13656,12 @@ static uint32_t sedge_ground_known_on_board_at(uint64_t ground, uint32_t value, 
 /* sedge_sim_entry_length, crates/sedgechisel_nodes/src/sim/records.rt:85 */
 static uint32_t sedge_sim_entry_length_at(uint64_t sim, uint32_t record, uint32_t map, uint64_t k, uint64_t count)
 {
-    uint32_t v6;
+    uint32_t answer;
     uint64_t link, v7, v8, v2, v3, v4;
     link = get64(sim /* link */);
     put64(sim /* link */, 0);
     if (link == 0) return SEDGE_NODE_NONE;
-    v6 = SEDGE_NODE_ABSENT;
+    answer = SEDGE_NODE_ABSENT;
     switch (record & 255) {
     case SEDGE_SUBMITTED:
         if ((map & 255) > 63) {
@@ -14168,17 +13696,17 @@ static uint32_t sedge_sim_entry_length_at(uint64_t sim, uint32_t record, uint32_
     }
     if (k < v8) {
         put64(count, get64((v2 + (k * 24)) + 8));
-        v6 = SEDGE_NODE_OK;
+        answer = SEDGE_NODE_OK;
     }
     put64(sim /* link */, link);
-    return v6;
+    return answer;
 }
 
 /* sedge_ground_peek, crates/sedgechisel_nodes/src/ground_take.rt:105 */
 static uint32_t sedge_ground_peek_at(uint64_t ground, uint64_t out, uint64_t room, uint64_t count)
 {
     unsigned char frame_octets[64 + 15];
-    uint32_t v6;
+    uint32_t answer;
     uint64_t v4, node;
     v4 = aligned(frame_octets);
     node = get64(ground /* node */);
@@ -14189,25 +13717,25 @@ static uint32_t sedge_ground_peek_at(uint64_t ground, uint64_t out, uint64_t roo
         put64(v4 + 56, 0);
         put64(v4 + 48, 0);
         tc_frame_encoding_encode(v4 + 48, v4 + 8, some(out), room);
-        v6 = SEDGE_NODE_ROOM;
+        answer = SEDGE_NODE_ROOM;
         if (get8(v4 + 48) != 0) {
             put64(ground /* node */, node);
-            return v6;
+            return answer;
         }
         put64(count, get64(v4 + 56));
     } else {
         put64(count, 0);
     }
-    v6 = SEDGE_NODE_OK;
+    answer = SEDGE_NODE_OK;
     put64(ground /* node */, node);
-    return v6;
+    return answer;
 }
 
 /* sedge_ground_pull, crates/sedgechisel_nodes/src/ground_take.rt:81 */
 static uint32_t sedge_ground_pull_at(uint64_t ground, uint64_t out, uint64_t room, uint64_t count)
 {
     unsigned char frame_octets[64 + 15];
-    uint32_t v6;
+    uint32_t answer;
     uint64_t v4, node;
     v4 = aligned(frame_octets);
     node = get64(ground /* node */);
@@ -14222,16 +13750,16 @@ static uint32_t sedge_ground_pull_at(uint64_t ground, uint64_t out, uint64_t roo
             put64(count, get64(v4 + 56));
             goto l4;
         }
-        v6 = SEDGE_NODE_ROOM;
+        answer = SEDGE_NODE_ROOM;
         put64(ground /* node */, node);
-        return v6;
+        return answer;
     }
     put64(count, 0);
 l4:;
     nodes_ground_node_Ground_advance(node);
-    v6 = SEDGE_NODE_OK;
+    answer = SEDGE_NODE_OK;
     put64(ground /* node */, node);
-    return v6;
+    return answer;
 }
 
 /* ---- The structs of the header, in the layout that the functions know. ---- */
