@@ -12,6 +12,7 @@ each frame where the code was compiled. LLVM writes `|` for `+` where it knows t
 
 What breaks a rule, or is not known here, is refused with the name of the function."""
 import collections
+import copy
 import functools
 import itertools
 import re
@@ -142,6 +143,8 @@ class Translation:
         for _ in range(self.reader.unsigned()):
             count, kind = self.reader.unsigned(), self.reader.octet()
             self.locals += [(f"v{len(self.locals) + k}", kind) for k in range(count)]
+        # Its statements and its name where they are not its own (tools/c_checks.py).
+        self.ready = self.own_name = None
         self.stack, self.open = [], [Block("function", None, 0, results=function.results)]
         self.now = {name: self.known(name) for name in names}
         # The variables that hold the lowest address of the frame, whichever way the code has taken.
@@ -733,7 +736,7 @@ class Translation:
     def signature(self):
         result = C_TYPES[self.function.results[0]] if self.function.results else "void"
         names = ", ".join(f"{C_TYPES[kind]} {name}" for name, kind in self.locals[: len(self.function.params)])
-        return f"static {result} {self.program.name_of(self.function)}({names or 'void'})"
+        return f"static {result} {self.own_name or self.program.name_of(self.function)}({names or 'void'})"
 
     def params(self):
         return [name for name, _ in self.locals[: len(self.function.params)]]
@@ -748,11 +751,18 @@ class Translation:
         items = simplified(self.items if items is None else items)
         return shortened(items, self.names(), self.program.fields(self.function))
 
+    def beginning(self, items, name, parameter):
+        """A function of its own of these statements, the beginning of this one, which is given one of its parameters."""
+        made, kind = copy.copy(self), dict(self.locals)[parameter]
+        made.ready, made.own_name, made.function = items, name, self.function._replace(params=[kind])
+        made.locals = [(parameter, kind), *self.locals[len(self.function.params) :]]
+        return made
+
     def lines(self, items=None):
         """The function's lines; those of other statements than its own where these are given."""
         params, kinds = self.params(), {**dict(self.locals), **self.kinds}
         if self.program.header:
-            items = self.shortened(items)
+            items = self.ready if items is None and self.ready else self.shortened(items)
             fields = self.program.fields(self.function)
             items, found = with_own_variables(items, self.names(), self.program.taken, fields)
             items, kinds = simplified(items), {name: (kinds[was], is_zero) for name, (was, is_zero) in found.items()}

@@ -778,6 +778,96 @@ static uint64_t sedge_tc_frames_at(uint64_t octets, uint64_t count, uint32_t che
 static uint32_t sedge_accepted_beyond_at(uint32_t nn, uint32_t vs, uint32_t value, uint64_t accepted);
 static uint32_t sedge_fop_accepted_beyond_at(uint64_t fop, uint32_t value, uint64_t accepted);
 
+/* The checks of a struct sedge_farm: SEDGE_OK, or SEDGE_DAMAGED. Of sedge_farm_ad, sedge_farm_bd,
+ * sedge_farm_control_word, sedge_farm_released, sedge_farm_set_vr, sedge_farm_state, sedge_farm_unlock. */
+static uint32_t check_sedge_farm(uint64_t farm)
+{
+    uint32_t lockout, wait, retransmit, width;
+    lockout = get8(farm + 2 /* lockout */);
+    if (lockout > 1) return SEDGE_DAMAGED;
+    wait = get8(farm + 3 /* wait */);
+    if (wait > 1) return SEDGE_DAMAGED;
+    retransmit = get8(farm + 4 /* retransmit */);
+    if (retransmit > 1 || (wait == 1 && retransmit != 1)) return SEDGE_DAMAGED;
+    width = get8(farm /* width */);
+    if (width == 0 || (width & 1) != 0 || (get8(farm + 5 /* farm_b */) & 255) > 3) return SEDGE_DAMAGED;
+    return SEDGE_OK;
+}
+
+/* The checks of a struct sedge_fop: SEDGE_OK, or SEDGE_DAMAGED. Of sedge_fop_clcw, sedge_fop_directive,
+ * sedge_fop_next, sedge_fop_submit, sedge_fop_tick, sedge_fop_accepted_beyond. */
+static uint32_t check_sedge_fop(uint64_t fop)
+{
+    uint32_t state, control_now, waiting, vr, v8, control, sent, room, v11, vs, nn, v14, ticks, v4;
+    state = get8(fop + 5 /* state */);
+    if (((state - 1) & 255) > 5) return SEDGE_DAMAGED;
+    control_now = SEDGE_CONTROL_UNLOCK_DUE;
+    waiting = get8(fop + 8 /* waiting */);
+    if (waiting > 1) return SEDGE_DAMAGED;
+    vr = get8(fop + 15 /* vr */);
+    v8 = 0;
+    control = get8(fop + 14 /* control */);
+    switch (control) {
+    case SEDGE_CONTROL_SET_VR_DUE:
+        break;
+    case SEDGE_CONTROL_SET_VR_SENT:
+        control_now = SEDGE_CONTROL_UNLOCK_SENT;
+        break;
+    default:
+        if (control > 2) return SEDGE_DAMAGED;
+        v8 = 1;
+        control_now = control;
+        if ((vr & 255) != 0) return SEDGE_DAMAGED;
+        break;
+    }
+    if (get8(fop + 13 /* count */) == 0 || (get16(fop /* timer */) & 0xffff) == 0 || (get8(fop + 12 /* limit */) &
+        255) == 0) return SEDGE_DAMAGED;
+    sent = get8(fop + 9 /* sent */);
+    if ((get8(fop + 10 /* due */) & 255) > (sent & 255)) return SEDGE_DAMAGED;
+    room = get8(fop + 4 /* room */);
+    v11 = room & 255;
+    if ((sent & 255) > v11) return SEDGE_DAMAGED;
+    vs = get8(fop + 6 /* vs */);
+    nn = get8(fop + 7 /* nn */);
+    v14 = vs - nn;
+    if ((v14 & 255) > v11 || extend32(room, 0x80) > 0x7fffffffU || ((get8(fop + 11 /* window */) - 1) & 255) >= (room
+        & 255)) return SEDGE_DAMAGED;
+    ticks = get16(fop + 2 /* ticks */);
+    switch (state) {
+    case SEDGE_FOP_S2:
+    case SEDGE_FOP_S3:
+        if (control_now != SEDGE_CONTROL_IDLE) return SEDGE_DAMAGED;
+        v4 = sent & 255;
+        if (v4 != (v14 & 255) || v4 == 0 || (ticks & 0xffff) == 0) return SEDGE_DAMAGED;
+        break;
+    case SEDGE_FOP_S4:
+        if ((sent & 255) != (v14 & 255) || ((sent | control_now) & 255) != 0 || (ticks & 0xffff) == 0) return
+            SEDGE_DAMAGED;
+        break;
+    case SEDGE_FOP_S5:
+        if ((sent & 255) != (v14 & 255) || (sent & 255) != 0) return SEDGE_DAMAGED;
+        switch (control_now) {
+        case SEDGE_CONTROL_UNLOCK_DUE:
+            if ((v8 | (uint32_t)((vr & 255) == (vs & 255))) == 0) return SEDGE_DAMAGED;
+            break;
+        case SEDGE_CONTROL_UNLOCK_SENT:
+            if ((~v8 & (uint32_t)((vr & 255) != (vs & 255))) != 0 || (ticks & 0xffff) == 0) return SEDGE_DAMAGED;
+            break;
+        default:
+            return SEDGE_DAMAGED;
+        }
+        break;
+    case SEDGE_FOP_S6:
+        if (((sent | control_now) & 255) != 0 || (waiting & 1) != 0 || (ticks & 0xffff) != 0) return SEDGE_DAMAGED;
+        break;
+    default:
+        if (control_now != SEDGE_CONTROL_IDLE || (sent & 255) != (v14 & 255) || ((uint32_t)((sent & 255) == 0) ^
+            (uint32_t)((ticks & 0xffff) != 0)) == 0) return SEDGE_DAMAGED;
+        break;
+    }
+    return SEDGE_OK;
+}
+
 /* octets::frame_check::check, crates/octets/src/frame_check.rt:17 */
 #ifndef SEDGE_SMALL
 static uint32_t octets_frame_check_check(uint64_t p0, uint64_t p1)
@@ -2290,15 +2380,11 @@ static void sedge_dropped_name_at(uint64_t result, uint32_t cause)
 /* sedge_farm_ad, crates/sedgechisel/src/receiver.rt:45 */
 static uint32_t sedge_farm_ad_at(uint64_t farm, uint32_t n, uint32_t buffer_free)
 {
-    uint32_t lockout, wait, retransmit, width, vr, v4, v2;
+    uint32_t lockout, wait, width, vr, v4, v2;
+    if (check_sedge_farm(farm) != SEDGE_OK) return SEDGE_DAMAGED;
     lockout = get8(farm + 2 /* lockout */);
-    if (lockout > 1) return SEDGE_DAMAGED;
     wait = get8(farm + 3 /* wait */);
-    if (wait > 1) return SEDGE_DAMAGED;
-    retransmit = get8(farm + 4 /* retransmit */);
-    if (retransmit > 1 || (wait == 1 && retransmit != 1)) return SEDGE_DAMAGED;
     width = get8(farm /* width */);
-    if (width == 0 || (width & 1) != 0 || (get8(farm + 5 /* farm_b */) & 255) > 3) return SEDGE_DAMAGED;
     if (lockout == 1) return SEDGE_DISCARDED;
     vr = get8(farm + 1 /* vr */);
     if ((n & 255) != (vr & 255)) { /* E3 to E5 */
@@ -2330,17 +2416,12 @@ static uint32_t sedge_farm_ad_at(uint64_t farm, uint32_t n, uint32_t buffer_free
 /* sedge_farm_bd, crates/sedgechisel/src/receiver.rt:75 */
 static uint32_t sedge_farm_bd_at(uint64_t farm)
 {
-    uint32_t lockout, wait, retransmit, farm_b, width;
+    uint32_t lockout, wait, retransmit, farm_b;
+    if (check_sedge_farm(farm) != SEDGE_OK) return SEDGE_DAMAGED;
     lockout = get8(farm + 2 /* lockout */);
-    if (lockout > 1) return SEDGE_DAMAGED;
     wait = get8(farm + 3 /* wait */);
-    if (wait > 1) return SEDGE_DAMAGED;
     retransmit = get8(farm + 4 /* retransmit */);
-    if (retransmit > 1 || (wait == 1 && retransmit != 1)) return SEDGE_DAMAGED;
     farm_b = get8(farm + 5 /* farm_b */);
-    if ((farm_b & 255) > 3) return SEDGE_DAMAGED;
-    width = get8(farm /* width */);
-    if (width == 0 || (width & 1) != 0) return SEDGE_DAMAGED;
     put8(farm + 4 /* retransmit */, retransmit == 1);
     put8(farm + 3 /* wait */, wait == 1);
     put8(farm + 2 /* lockout */, lockout == 1);
@@ -2351,17 +2432,12 @@ static uint32_t sedge_farm_bd_at(uint64_t farm)
 /* sedge_farm_control_word, crates/sedgechisel/src/receiver.rt:111 */
 static uint32_t sedge_farm_control_word_at(uint64_t farm, uint32_t vcid, uint64_t word)
 {
-    uint32_t lockout, wait, retransmit, width, farm_b;
+    uint32_t lockout, wait, retransmit, farm_b;
+    if (check_sedge_farm(farm) != SEDGE_OK) return SEDGE_DAMAGED;
     lockout = get8(farm + 2 /* lockout */);
-    if (lockout > 1) return SEDGE_DAMAGED;
     wait = get8(farm + 3 /* wait */);
-    if (wait > 1) return SEDGE_DAMAGED;
     retransmit = get8(farm + 4 /* retransmit */);
-    if (retransmit > 1 || (wait == 1 && retransmit != 1)) return SEDGE_DAMAGED;
-    width = get8(farm /* width */);
-    if (width == 0 || (width & 1) != 0) return SEDGE_DAMAGED;
     farm_b = get8(farm + 5 /* farm_b */);
-    if ((farm_b & 255) > 3) return SEDGE_DAMAGED;
     if ((vcid & 255) > 63) return SEDGE_CLCW_RANGE;
     put8(word + 4 /* value */, get8(farm + 1 /* vr */));
     put8(word + 3 /* farm_b */, farm_b);
@@ -2390,16 +2466,10 @@ static uint32_t sedge_farm_open_at(uint64_t farm, uint32_t width, uint32_t vr)
 /* sedge_farm_released, crates/sedgechisel/src/receiver.rt:100 */
 static uint32_t sedge_farm_released_at(uint64_t farm)
 {
-    uint32_t lockout, wait, retransmit, width;
+    uint32_t lockout, retransmit;
+    if (check_sedge_farm(farm) != SEDGE_OK) return SEDGE_DAMAGED;
     lockout = get8(farm + 2 /* lockout */);
-    if (lockout > 1) return SEDGE_DAMAGED;
-    wait = get8(farm + 3 /* wait */);
-    if (wait > 1) return SEDGE_DAMAGED;
     retransmit = get8(farm + 4 /* retransmit */);
-    if (retransmit > 1 || ((wait == 1 && retransmit != 1) || (get8(farm + 5 /* farm_b */) & 255) > 3)) return
-        SEDGE_DAMAGED;
-    width = get8(farm /* width */);
-    if (width == 0 || (width & 1) != 0) return SEDGE_DAMAGED;
     put8(farm + 4 /* retransmit */, retransmit == 1);
     put8(farm + 3 /* wait */, 0);
     put8(farm + 2 /* lockout */, lockout == 1);
@@ -2409,18 +2479,13 @@ static uint32_t sedge_farm_released_at(uint64_t farm)
 /* sedge_farm_set_vr, crates/sedgechisel/src/receiver.rt:92 */
 static uint32_t sedge_farm_set_vr_at(uint64_t farm, uint32_t vr)
 {
-    uint32_t lockout, wait, retransmit, farm_b, width, new_lockout;
+    uint32_t lockout, wait, retransmit, farm_b, new_lockout;
     uint64_t v8;
+    if (check_sedge_farm(farm) != SEDGE_OK) return SEDGE_DAMAGED;
     lockout = get8(farm + 2 /* lockout */);
-    if (lockout > 1) return SEDGE_DAMAGED;
     wait = get8(farm + 3 /* wait */);
-    if (wait > 1) return SEDGE_DAMAGED;
     retransmit = get8(farm + 4 /* retransmit */);
-    if (retransmit > 1 || (wait == 1 && retransmit != 1)) return SEDGE_DAMAGED;
     farm_b = get8(farm + 5 /* farm_b */);
-    if ((farm_b & 255) > 3) return SEDGE_DAMAGED;
-    width = get8(farm /* width */);
-    if (width == 0 || (width & 1) != 0) return SEDGE_DAMAGED;
     new_lockout = lockout == 1;
     put8(farm + 2 /* lockout */, new_lockout);
     put8(farm + 5 /* farm_b */, (farm_b + 1) & 3);
@@ -2434,16 +2499,10 @@ static uint32_t sedge_farm_set_vr_at(uint64_t farm, uint32_t vr)
 /* sedge_farm_state, crates/sedgechisel/src/receiver.rt:127 */
 static uint32_t sedge_farm_state_at(uint64_t farm)
 {
-    uint32_t lockout, wait, retransmit, width, answer;
+    uint32_t lockout, wait, answer;
+    if (check_sedge_farm(farm) != SEDGE_OK) return SEDGE_DAMAGED;
     lockout = get8(farm + 2 /* lockout */);
-    if (lockout > 1) return SEDGE_DAMAGED;
     wait = get8(farm + 3 /* wait */);
-    if (wait > 1) return SEDGE_DAMAGED;
-    retransmit = get8(farm + 4 /* retransmit */);
-    if (retransmit > 1 || ((wait == 1 && retransmit != 1) || (get8(farm + 5 /* farm_b */) & 255) > 3)) return
-        SEDGE_DAMAGED;
-    width = get8(farm /* width */);
-    if (width == 0 || (width & 1) != 0) return SEDGE_DAMAGED;
     answer = (lockout == 1) ? SEDGE_FARM_LOCKOUT : (uint32_t)(wait == 1);
     return answer;
 }
@@ -2451,16 +2510,9 @@ static uint32_t sedge_farm_state_at(uint64_t farm)
 /* sedge_farm_unlock, crates/sedgechisel/src/receiver.rt:83 */
 static uint32_t sedge_farm_unlock_at(uint64_t farm)
 {
-    uint32_t wait, retransmit, farm_b, width;
-    if (get8(farm + 2 /* lockout */) > 1) return SEDGE_DAMAGED;
-    wait = get8(farm + 3 /* wait */);
-    if (wait > 1) return SEDGE_DAMAGED;
-    retransmit = get8(farm + 4 /* retransmit */);
-    if (retransmit > 1 || (wait == 1 && retransmit != 1)) return SEDGE_DAMAGED;
+    uint32_t farm_b;
+    if (check_sedge_farm(farm) != SEDGE_OK) return SEDGE_DAMAGED;
     farm_b = get8(farm + 5 /* farm_b */);
-    if ((farm_b & 255) > 3) return SEDGE_DAMAGED;
-    width = get8(farm /* width */);
-    if (width == 0 || (width & 1) != 0) return SEDGE_DAMAGED;
     put8(farm + 4 /* retransmit */, 0);
     put16(farm + 2 /* lockout, wait */, 0);
     put8(farm + 5 /* farm_b */, (farm_b + 1) & 3);
@@ -4667,16 +4719,15 @@ static uint64_t sedge_tm_extractor_frames_at(uint64_t extractor, uint64_t octets
 /* sedge_fop_clcw, crates/sedgechisel/src/sender.rt:115 */
 static uint32_t sedge_fop_clcw_at(uint64_t fop, uint32_t vcid, uint64_t word, uint64_t released)
 {
-    uint32_t state, v5, v6, waiting, vr, v9, new_control, control, count, timer, limit, due, sent, room, v4, vs, nn,
-        v19, window, ticks, new_state, new_waiting, new_count, new_due, new_sent, new_nn, new_ticks, v2, v3, flags,
-        answer, flags_2, value, v10, v22, v23, new_vr, v8, v24, v25, v26, v27;
+    uint32_t state, v5, v6, waiting, vr, v9, new_control, control, count, timer, limit, due, sent, room, vs, nn, v19,
+        window, ticks, new_state, new_waiting, new_count, new_due, new_sent, new_nn, new_ticks, v2, flags, answer,
+        flags_2, value, v10, v3, v22, new_vr, v8, v4, v23, v24, v25;
     if (get8(word + 1 /* vcid */) != (vcid & 255)) return SEDGE_ABSENT;
+    if (check_sedge_fop(fop) != SEDGE_OK) return SEDGE_DAMAGED;
     state = get8(fop + 5 /* state */);
     v5 = state - 1;
-    if ((v5 & 255) > 5) return SEDGE_DAMAGED;
     v6 = 1;
     waiting = get8(fop + 8 /* waiting */);
-    if (waiting > 1) return SEDGE_DAMAGED;
     vr = get8(fop + 15 /* vr */);
     v9 = 0;
     new_control = SEDGE_CONTROL_UNLOCK_DUE;
@@ -4688,30 +4739,21 @@ static uint32_t sedge_fop_clcw_at(uint64_t fop, uint32_t vcid, uint64_t word, ui
         new_control = SEDGE_CONTROL_UNLOCK_SENT;
         break;
     default:
-        if (control > 2 || (vr & 255) != 0) return SEDGE_DAMAGED;
         v6 = 0;
         v9 = 1;
         new_control = control;
         break;
     }
     count = get8(fop + 13 /* count */);
-    if (count == 0) return SEDGE_DAMAGED;
     timer = get16(fop /* timer */);
-    if ((timer & 0xffff) == 0) return SEDGE_DAMAGED;
     limit = get8(fop + 12 /* limit */);
-    if ((limit & 255) == 0) return SEDGE_DAMAGED;
     due = get8(fop + 10 /* due */);
     sent = get8(fop + 9 /* sent */);
-    if ((due & 255) > (sent & 255)) return SEDGE_DAMAGED;
     room = get8(fop + 4 /* room */);
-    v4 = room & 255;
-    if ((sent & 255) > v4) return SEDGE_DAMAGED;
     vs = get8(fop + 6 /* vs */);
     nn = get8(fop + 7 /* nn */);
     v19 = vs - nn;
-    if ((v19 & 255) > v4 || extend32(room, 0x80) > 0x7fffffffU) return SEDGE_DAMAGED;
     window = get8(fop + 11 /* window */);
-    if (((window - 1) & 255) >= (room & 255)) return SEDGE_DAMAGED;
     ticks = get16(fop + 2 /* ticks */);
     new_state = state;
     new_waiting = waiting;
@@ -4721,16 +4763,8 @@ static uint32_t sedge_fop_clcw_at(uint64_t fop, uint32_t vcid, uint64_t word, ui
     new_nn = nn;
     new_ticks = ticks;
     switch (state) {
-    case SEDGE_FOP_S2:
-    case SEDGE_FOP_S3: /* report 1 to 8 */
-        if (new_control != SEDGE_CONTROL_IDLE) return SEDGE_DAMAGED;
-        v2 = sent & 255;
-        if (v2 != (v19 & 255) || v2 == 0 || (ticks & 0xffff) == 0) return SEDGE_DAMAGED;
-        break;
     case SEDGE_FOP_S4: /* report 9 to 13 */
-        if ((sent & 255) != (v19 & 255) || ((sent | new_control) & 255) != 0 || (ticks & 0xffff) == 0) return
-            SEDGE_DAMAGED;
-        v3 = 0;
+        v2 = 0;
         flags = get8(word + 2 /* flags */);
         if ((flags & SEDGE_CLCW_LOCKOUT) != 0) { /* report 9 */
             answer = SEDGE_ALERT_LOCKOUT;
@@ -4747,26 +4781,15 @@ static uint32_t sedge_fop_clcw_at(uint64_t fop, uint32_t vcid, uint64_t word, ui
         if ((flags & SEDGE_CLCW_WAIT) == 0) goto l7; /* report 13 */
         goto l31; /* report 12 */
     case SEDGE_FOP_S5: /* report 14, 15 */
-        if ((sent & 255) != (v19 & 255) || (sent & 255) != 0) return SEDGE_DAMAGED;
-        switch (new_control) {
-        case SEDGE_CONTROL_UNLOCK_DUE:
-            if ((v9 | (uint32_t)((vr & 255) == (vs & 255))) != 0) goto l8;
-            return SEDGE_DAMAGED;
-        case SEDGE_CONTROL_UNLOCK_SENT:
-            if ((~v9 & (uint32_t)((vr & 255) != (vs & 255))) != 0 || (ticks & 0xffff) == 0) return SEDGE_DAMAGED;
-            goto l8;
-        default:
-            return SEDGE_DAMAGED;
-        }
+        if ((get8(word + 2 /* flags */) & (SEDGE_CLCW_RETRANSMIT | SEDGE_CLCW_WAIT | SEDGE_CLCW_LOCKOUT)) != 0 ||
+            get8(word + 4 /* value */) != (vs & 255)) goto l6; /* report 15 */
+        goto l7; /* report 14 */
     case SEDGE_FOP_S6: /* report 16 */
-        if (((sent | new_control) & 255) != 0 || (waiting & 1) != 0 || (ticks & 0xffff) != 0) return SEDGE_DAMAGED;
         goto l6;
     default: /* report 1 to 8 */
-        if (new_control != SEDGE_CONTROL_IDLE || (sent & 255) != (v19 & 255) || ((uint32_t)((sent & 255) == 0) ^
-            (uint32_t)((ticks & 0xffff) != 0)) == 0) return SEDGE_DAMAGED;
         break;
     }
-    v3 = 0; /* report 1 to 8 */
+    v2 = 0; /* report 1 to 8 */
     flags_2 = get8(word + 2 /* flags */);
     if ((flags_2 & SEDGE_CLCW_LOCKOUT) != 0) { /* report 1 */
         answer = SEDGE_ALERT_LOCKOUT;
@@ -4790,16 +4813,16 @@ static uint32_t sedge_fop_clcw_at(uint64_t fop, uint32_t vcid, uint64_t word, ui
             }
             put8(released, v10); /* report 6 */
             new_sent = nn - value + sent;
-            v22 = new_sent & 255;
-            v23 = due & 255;
-            new_due = (v22 < v23) ? v22 : v23;
+            v3 = new_sent & 255;
+            v22 = due & 255;
+            new_due = (v3 < v22) ? v3 : v22;
             new_vr = 0;
             new_state = SEDGE_FOP_S1;
             new_control = SEDGE_CONTROL_IDLE;
             new_count = 1;
             new_ticks = timer;
             new_nn = value;
-            if (v22 != 0) goto l2;
+            if (v3 != 0) goto l2;
             new_sent = 0;
             goto l5;
         }
@@ -4808,18 +4831,18 @@ static uint32_t sedge_fop_clcw_at(uint64_t fop, uint32_t vcid, uint64_t word, ui
             answer = SEDGE_ALERT_SYNCH;
             goto l30;
         }
-        v24 = flags_2 & SEDGE_CLCW_WAIT; /* report 7, 8 */
+        v4 = flags_2 & SEDGE_CLCW_WAIT; /* report 7, 8 */
         if ((nn & 255) == v8) { /* report 8 */
-            v25 = limit & 255;
-            if (v25 == 1) {
+            v23 = limit & 255;
+            if (v23 == 1) {
                 answer = SEDGE_ALERT_LIMIT;
                 goto l30;
             }
-            if (v24 != 0) {
+            if (v4 != 0) {
                 new_state = SEDGE_FOP_S3;
                 goto l26;
             }
-            if ((v5 & 255) != 1 /* SEDGE_FOP_S2 */ && count < v25) {
+            if ((v5 & 255) != 1 /* SEDGE_FOP_S2 */ && count < v23) {
                 new_count = count + 1;
                 new_due = sent;
                 goto l28;
@@ -4830,20 +4853,20 @@ static uint32_t sedge_fop_clcw_at(uint64_t fop, uint32_t vcid, uint64_t word, ui
         new_count = 1; /* report 7 */
         if ((limit & 255) == 1) {
             answer = SEDGE_ALERT_LIMIT;
-            v3 = v10;
+            v2 = v10;
             new_nn = value;
             goto l30;
         }
         new_sent = nn - value + sent;
         new_count = 2;
-        if (v24 == 0) {
+        if (v4 == 0) {
             new_due = new_sent;
             new_nn = value;
             goto l28;
         }
-        v26 = new_sent & 255;
-        v27 = due & 255;
-        new_due = (v26 < v27) ? v26 : v27;
+        v24 = new_sent & 255;
+        v25 = due & 255;
+        new_due = (v24 < v25) ? v24 : v25;
         new_state = SEDGE_FOP_S3;
         new_count = 1;
         new_nn = value;
@@ -4852,7 +4875,7 @@ static uint32_t sedge_fop_clcw_at(uint64_t fop, uint32_t vcid, uint64_t word, ui
 l31:; /* report 3, 12 */
     answer = SEDGE_ALERT_CLCW;
 l30:; /* report 1 to 5, 7 to 12 */
-    put8(released, v3);
+    put8(released, v2);
     new_vr = 0;
     new_state = SEDGE_FOP_S6;
     new_control = SEDGE_CONTROL_IDLE;
@@ -4873,9 +4896,6 @@ l26:; /* report 5, 7, 8 */
     new_control = SEDGE_CONTROL_IDLE;
     if ((ticks & 0xffff) != 0) goto l2;
     goto l5; /* report 5 */
-l8:; /* report 14, 15 */
-    if ((get8(word + 2 /* flags */) & (SEDGE_CLCW_RETRANSMIT | SEDGE_CLCW_WAIT | SEDGE_CLCW_LOCKOUT)) != 0 ||
-        get8(word + 4 /* value */) != (vs & 255)) goto l6; /* report 15 */
 l7:; /* report 13, 14 */
     new_vr = 0;
     put8(released, 0);
@@ -4937,9 +4957,10 @@ l1:;
 static uint32_t sedge_fop_directive_at(uint64_t fop, uint32_t directive, uint32_t value)
 {
     uint32_t v3, v4, v5, v6, v7, v8, state, v2, control_now, waiting, vr, v10, control, count, timer, limit, due,
-        sent, room, v17, vs, nn, v20, window, ticks, new_count, new_timer, new_limit, new_vs, new_nn, new_window, v22,
-        new_waiting, new_state, new_vr, new_control, new_sent, new_due, new_ticks, vs_now, nn_now, state_now,
-        count_now, sent_now, due_now, vr_now;
+        sent, room, vs, nn, window, ticks, new_count, new_timer, new_limit, new_vs, new_nn, new_window, new_waiting,
+        new_state, new_vr, new_control, new_sent, new_due, new_ticks, vs_now, nn_now, state_now, count_now, sent_now,
+        due_now, vr_now;
+    if (check_sedge_fop(fop) != SEDGE_OK) return SEDGE_DAMAGED;
     v3 = value & 0xffff;
     v4 = v3 < 256;
     v5 = (v4 != 0) ? v3 : 256U;
@@ -4985,10 +5006,8 @@ static uint32_t sedge_fop_directive_at(uint64_t fop, uint32_t directive, uint32_
     }
     state = get8(fop + 5 /* state */);
     v2 = state - 1;
-    if ((v2 & 255) > 5) return SEDGE_DAMAGED;
     control_now = SEDGE_CONTROL_UNLOCK_DUE;
     waiting = get8(fop + 8 /* waiting */);
-    if (waiting > 1) return SEDGE_DAMAGED;
     vr = get8(fop + 15 /* vr */);
     v10 = 0;
     control = get8(fop + 14 /* control */);
@@ -4999,30 +5018,19 @@ static uint32_t sedge_fop_directive_at(uint64_t fop, uint32_t directive, uint32_
         control_now = SEDGE_CONTROL_UNLOCK_SENT;
         break;
     default:
-        if (control > 2) return SEDGE_DAMAGED;
         v10 = 1;
         control_now = control;
-        if ((vr & 255) != 0) return SEDGE_DAMAGED;
         break;
     }
     count = get8(fop + 13 /* count */);
-    if (count == 0) return SEDGE_DAMAGED;
     timer = get16(fop /* timer */);
-    if ((timer & 0xffff) == 0) return SEDGE_DAMAGED;
     limit = get8(fop + 12 /* limit */);
-    if ((limit & 255) == 0) return SEDGE_DAMAGED;
     due = get8(fop + 10 /* due */);
     sent = get8(fop + 9 /* sent */);
-    if ((due & 255) > (sent & 255)) return SEDGE_DAMAGED;
     room = get8(fop + 4 /* room */);
-    v17 = room & 255;
-    if ((sent & 255) > v17) return SEDGE_DAMAGED;
     vs = get8(fop + 6 /* vs */);
     nn = get8(fop + 7 /* nn */);
-    v20 = vs - nn;
-    if ((v20 & 255) > v17 || extend32(room, 0x80) > 0x7fffffffU) return SEDGE_DAMAGED;
     window = get8(fop + 11 /* window */);
-    if (((window - 1) & 255) >= (room & 255)) return SEDGE_DAMAGED;
     ticks = get16(fop + 2 /* ticks */);
     new_count = count;
     new_timer = timer;
@@ -5030,38 +5038,6 @@ static uint32_t sedge_fop_directive_at(uint64_t fop, uint32_t directive, uint32_
     new_vs = vs;
     new_nn = nn;
     new_window = window;
-    switch (state) {
-    case SEDGE_FOP_S2:
-    case SEDGE_FOP_S3:
-        if (control_now != SEDGE_CONTROL_IDLE) return SEDGE_DAMAGED;
-        v22 = sent & 255;
-        if (v22 != (v20 & 255) || v22 == 0 || (ticks & 0xffff) == 0) return SEDGE_DAMAGED;
-        break;
-    case SEDGE_FOP_S4:
-        if ((sent & 255) != (v20 & 255) || ((sent | control_now) & 255) != 0 || (ticks & 0xffff) == 0) return
-            SEDGE_DAMAGED;
-        break;
-    case SEDGE_FOP_S5:
-        if ((sent & 255) != (v20 & 255) || (sent & 255) != 0) return SEDGE_DAMAGED;
-        switch (control_now) {
-        case SEDGE_CONTROL_UNLOCK_DUE:
-            if ((v10 | (uint32_t)((vr & 255) == (vs & 255))) == 0) return SEDGE_DAMAGED;
-            break;
-        case SEDGE_CONTROL_UNLOCK_SENT:
-            if ((~v10 & (uint32_t)((vr & 255) != (vs & 255))) != 0 || (ticks & 0xffff) == 0) return SEDGE_DAMAGED;
-            break;
-        default:
-            return SEDGE_DAMAGED;
-        }
-        break;
-    case SEDGE_FOP_S6:
-        if (((sent | control_now) & 255) != 0 || (waiting & 1) != 0 || (ticks & 0xffff) != 0) return SEDGE_DAMAGED;
-        break;
-    default:
-        if (control_now != SEDGE_CONTROL_IDLE || (sent & 255) != (v20 & 255) || ((uint32_t)((sent & 255) == 0) ^
-            (uint32_t)((ticks & 0xffff) != 0)) == 0) return SEDGE_DAMAGED;
-        break;
-    }
     switch (v8) {
     case 4: /* directive 5 */
         if ((v2 & 255) == 5 /* SEDGE_FOP_S6 */) return SEDGE_COP_WRONG_STATE;
@@ -5195,15 +5171,14 @@ l23:;
 /* sedge_fop_next, crates/sedgechisel/src/sender.rt:94 */
 static uint32_t sedge_fop_next_at(uint64_t fop, uint64_t number)
 {
-    uint32_t state, v4, control_now, waiting, vr, v8, control, count, timer, limit, due, sent, room, v15, vs, nn, v18,
-        window, ticks, new_waiting, new_count, new_due, new_sent, new_vs, ticks_now, v5, answer, v20, new_control,
-        new_vr, new_ticks;
+    uint32_t state, v4, control_now, waiting, vr, v8, control, count, timer, limit, due, sent, room, vs, nn, window,
+        ticks, new_waiting, new_count, new_due, new_sent, new_vs, ticks_now, answer, v20, new_control, new_vr,
+        new_ticks;
+    if (check_sedge_fop(fop) != SEDGE_OK) return SEDGE_DAMAGED;
     state = get8(fop + 5 /* state */);
     v4 = state - 1;
-    if ((v4 & 255) > 5) return SEDGE_DAMAGED;
     control_now = SEDGE_CONTROL_UNLOCK_DUE;
     waiting = get8(fop + 8 /* waiting */);
-    if (waiting > 1) return SEDGE_DAMAGED;
     vr = get8(fop + 15 /* vr */);
     v8 = 0;
     control = get8(fop + 14 /* control */);
@@ -5214,30 +5189,19 @@ static uint32_t sedge_fop_next_at(uint64_t fop, uint64_t number)
         control_now = SEDGE_CONTROL_UNLOCK_SENT;
         break;
     default:
-        if (control > 2) return SEDGE_DAMAGED;
         v8 = 1;
         control_now = control;
-        if ((vr & 255) != 0) return SEDGE_DAMAGED;
         break;
     }
     count = get8(fop + 13 /* count */);
-    if (count == 0) return SEDGE_DAMAGED;
     timer = get16(fop /* timer */);
-    if ((timer & 0xffff) == 0) return SEDGE_DAMAGED;
     limit = get8(fop + 12 /* limit */);
-    if ((limit & 255) == 0) return SEDGE_DAMAGED;
     due = get8(fop + 10 /* due */);
     sent = get8(fop + 9 /* sent */);
-    if ((due & 255) > (sent & 255)) return SEDGE_DAMAGED;
     room = get8(fop + 4 /* room */);
-    v15 = room & 255;
-    if ((sent & 255) > v15) return SEDGE_DAMAGED;
     vs = get8(fop + 6 /* vs */);
     nn = get8(fop + 7 /* nn */);
-    v18 = vs - nn;
-    if ((v18 & 255) > v15 || extend32(room, 0x80) > 0x7fffffffU) return SEDGE_DAMAGED;
     window = get8(fop + 11 /* window */);
-    if (((window - 1) & 255) >= (room & 255)) return SEDGE_DAMAGED;
     ticks = get16(fop + 2 /* ticks */);
     new_waiting = waiting;
     new_count = count;
@@ -5248,47 +5212,33 @@ static uint32_t sedge_fop_next_at(uint64_t fop, uint64_t number)
     switch (state) {
     case SEDGE_FOP_S2:
     case SEDGE_FOP_S3: /* pull 3 to 5 */
-        if (control_now != SEDGE_CONTROL_IDLE) return SEDGE_DAMAGED;
-        v5 = sent & 255;
-        if (v5 != (v18 & 255) || v5 == 0 || (ticks & 0xffff) == 0) return SEDGE_DAMAGED;
         if ((v4 & 255) > 1) goto l12; /* pull 5 */
-        goto l13;
-    case SEDGE_FOP_S4: /* pull 5 */
-        if ((sent & 255) != (v18 & 255) || ((sent | control_now) & 255) != 0 || (ticks & 0xffff) == 0) return
-            SEDGE_DAMAGED;
         break;
+    case SEDGE_FOP_S4:
+    case SEDGE_FOP_S6: /* pull 5 */
+        if (control_now == SEDGE_CONTROL_UNLOCK_DUE) goto l4;
+        answer = SEDGE_NEXT_NOTHING;
+        put8(number, 0);
+        v20 = (ticks & 0xffff) != 0;
+        new_control = SEDGE_CONTROL_IDLE;
+        new_vr = 0;
+        if (control_now == SEDGE_CONTROL_IDLE) goto l2;
+        goto l3;
     case SEDGE_FOP_S5: /* pull 1, 5 */
-        if ((sent & 255) != (v18 & 255) || (sent & 255) != 0) return SEDGE_DAMAGED;
         switch (control_now) {
         case SEDGE_CONTROL_UNLOCK_DUE: /* pull 1 */
-            if ((v8 | (uint32_t)((vr & 255) == (vs & 255))) != 0) goto l4;
-            return SEDGE_DAMAGED;
+            goto l4;
         case SEDGE_CONTROL_UNLOCK_SENT: /* pull 5 */
-            if ((~v8 & (uint32_t)((vr & 255) != (vs & 255))) != 0 || (ticks & 0xffff) == 0) return SEDGE_DAMAGED;
             answer = SEDGE_NEXT_NOTHING;
             put8(number, 0);
             v20 = 1;
             goto l3;
         default:
-            return SEDGE_DAMAGED;
+            UNREACHABLE;
         }
-    case SEDGE_FOP_S6: /* pull 5 */
-        if (((sent | control_now) & 255) != 0 || (waiting & 1) != 0 || (ticks & 0xffff) != 0) return SEDGE_DAMAGED;
-        break;
     default: /* pull 3 to 5 */
-        if (control_now != SEDGE_CONTROL_IDLE || (sent & 255) != (v18 & 255)) return SEDGE_DAMAGED;
-        if (((uint32_t)((sent & 255) == 0) ^ (uint32_t)((ticks & 0xffff) != 0)) != 0) goto l13;
-        return SEDGE_DAMAGED;
+        break;
     }
-    if (control_now == SEDGE_CONTROL_UNLOCK_DUE) goto l4;
-    answer = SEDGE_NEXT_NOTHING;
-    put8(number, 0);
-    v20 = (ticks & 0xffff) != 0;
-    new_control = SEDGE_CONTROL_IDLE;
-    new_vr = 0;
-    if (control_now == SEDGE_CONTROL_IDLE) goto l2;
-    goto l3;
-l13:; /* pull 3 to 5 */
     if ((due & 255) != 0) { /* pull 3 */
         put8(number, sent + nn - due);
         new_due = due - 1;
@@ -5349,12 +5299,11 @@ l1:;
 /* sedge_fop_submit, crates/sedgechisel/src/sender.rt:81 */
 static uint32_t sedge_fop_submit_at(uint64_t fop)
 {
-    uint32_t state, v3, waiting, vr, v6, new_control, control, sent, room, v10, vs, v12, ticks, v2, new_vr;
+    uint32_t state, v3, waiting, vr, v6, new_control, control, new_vr;
+    if (check_sedge_fop(fop) != SEDGE_OK) return SEDGE_DAMAGED;
     state = get8(fop + 5 /* state */);
-    if (((state - 1) & 255) > 5) return SEDGE_DAMAGED;
     v3 = 1;
     waiting = get8(fop + 8 /* waiting */);
-    if (waiting > 1) return SEDGE_DAMAGED;
     vr = get8(fop + 15 /* vr */);
     v6 = 0;
     new_control = SEDGE_CONTROL_UNLOCK_DUE;
@@ -5366,95 +5315,54 @@ static uint32_t sedge_fop_submit_at(uint64_t fop)
         new_control = SEDGE_CONTROL_UNLOCK_SENT;
         break;
     default:
-        if (control > 2 || (vr & 255) != 0) return SEDGE_DAMAGED;
         v3 = 0;
         v6 = 1;
         new_control = control;
         break;
     }
-    if (get8(fop + 13 /* count */) == 0 || (get16(fop /* timer */) & 0xffff) == 0 || (get8(fop + 12 /* limit */) &
-        255) == 0) return SEDGE_DAMAGED;
-    sent = get8(fop + 9 /* sent */);
-    if ((get8(fop + 10 /* due */) & 255) > (sent & 255)) return SEDGE_DAMAGED;
-    room = get8(fop + 4 /* room */);
-    v10 = room & 255;
-    if ((sent & 255) > v10) return SEDGE_DAMAGED;
-    vs = get8(fop + 6 /* vs */);
-    v12 = vs - get8(fop + 7 /* nn */);
-    if ((v12 & 255) > v10 || extend32(room, 0x80) > 0x7fffffffU || ((get8(fop + 11 /* window */) - 1) & 255) >= (room
-        & 255)) return SEDGE_DAMAGED;
-    ticks = get16(fop + 2 /* ticks */);
     switch (state) {
-    case SEDGE_FOP_S2:
-    case SEDGE_FOP_S3: /* submission 2, 3 */
-        if (new_control != SEDGE_CONTROL_IDLE) return SEDGE_DAMAGED;
-        v2 = sent & 255;
-        if (v2 != (v12 & 255) || v2 == 0 || (ticks & 0xffff) == 0) return SEDGE_DAMAGED;
-        break;
-    case SEDGE_FOP_S4: /* submission 2, 3 */
-        if ((sent & 255) != (v12 & 255) || ((sent | new_control) & 255) != 0 || (ticks & 0xffff) == 0) return
-            SEDGE_DAMAGED;
-        break;
-    case SEDGE_FOP_S5: /* submission 2, 3 */
-        if ((sent & 255) != (v12 & 255) || (sent & 255) != 0) return SEDGE_DAMAGED;
-        switch (new_control) {
-        case SEDGE_CONTROL_UNLOCK_DUE:
-            if ((v6 | (uint32_t)((vr & 255) == (vs & 255))) == 0) return SEDGE_DAMAGED;
-            break;
-        case SEDGE_CONTROL_UNLOCK_SENT:
-            if ((~v6 & (uint32_t)((vr & 255) != (vs & 255))) != 0 || (ticks & 0xffff) == 0) return SEDGE_DAMAGED;
-            break;
-        default:
-            return SEDGE_DAMAGED;
-        }
-        break;
     case SEDGE_FOP_S6: /* submission 1 */
-        if (((sent | new_control) & 255) != 0 || (waiting & 1) != 0 || (ticks & 0xffff) != 0) return SEDGE_DAMAGED;
         return SEDGE_COP_NOT_OPEN;
     default: /* submission 2, 3 */
-        if (new_control != SEDGE_CONTROL_IDLE || (sent & 255) != (v12 & 255) || ((uint32_t)((sent & 255) == 0) ^
-            (uint32_t)((ticks & 0xffff) != 0)) == 0) return SEDGE_DAMAGED;
-        break;
-    }
-    if ((waiting & 1) != 0) return SEDGE_COP_BUSY; /* submission 2 */
-    new_vr = new_control; /* submission 3 */
-    switch (new_control) {
-    case SEDGE_CONTROL_UNLOCK_DUE:
-        new_control = (v6 != 0) ? SEDGE_CONTROL_UNLOCK_DUE : SEDGE_CONTROL_SET_VR_DUE;
-        if (v3 == 0) {
-            new_vr = 0;
+        if ((waiting & 1) != 0) return SEDGE_COP_BUSY; /* submission 2 */
+        new_vr = new_control; /* submission 3 */
+        switch (new_control) {
+        case SEDGE_CONTROL_UNLOCK_DUE:
+            new_control = (v6 != 0) ? SEDGE_CONTROL_UNLOCK_DUE : SEDGE_CONTROL_SET_VR_DUE;
+            if (v3 == 0) {
+                new_vr = 0;
+                goto l14;
+            }
+            break;
+        case SEDGE_CONTROL_UNLOCK_SENT:
+            new_control = (v6 != 0) ? SEDGE_CONTROL_UNLOCK_SENT : SEDGE_CONTROL_SET_VR_SENT;
+            if (v3 == 0) {
+                new_vr = 0;
+                goto l14;
+            }
+            break;
+        default:
             goto l14;
         }
-        break;
-    case SEDGE_CONTROL_UNLOCK_SENT:
-        new_control = (v6 != 0) ? SEDGE_CONTROL_UNLOCK_SENT : SEDGE_CONTROL_SET_VR_SENT;
-        if (v3 == 0) {
-            new_vr = 0;
-            goto l14;
-        }
-        break;
-    default:
-        goto l14;
+        new_vr = vr;
+    l14:;
+        put8(fop + 15 /* vr */, new_vr);
+        put8(fop + 14 /* control */, new_control);
+        put8(fop + 8 /* waiting */, 1);
+        return SEDGE_OK;
     }
-    new_vr = vr;
-l14:; /* submission 3 */
-    put8(fop + 15 /* vr */, new_vr);
-    put8(fop + 14 /* control */, new_control);
-    put8(fop + 8 /* waiting */, 1);
-    return SEDGE_OK;
 }
 
 /* sedge_fop_tick, crates/sedgechisel/src/sender.rt:142 */
 static uint32_t sedge_fop_tick_at(uint64_t fop)
 {
-    uint32_t state, v3, v4, waiting, vr, v7, new_control, control, count, timer, limit, due, sent, room, v15, vs, v17,
-        ticks, new_state, new_waiting, new_count, timer_now, new_due, new_sent, v18, v19, new_vr, answer, new_ticks;
+    uint32_t state, v3, v4, waiting, vr, v7, new_control, control, count, timer, limit, due, sent, ticks, new_state,
+        new_waiting, new_count, timer_now, new_due, new_sent, v15, new_vr, answer, new_ticks;
+    if (check_sedge_fop(fop) != SEDGE_OK) return SEDGE_DAMAGED;
     state = get8(fop + 5 /* state */);
     v3 = state - 1;
-    if ((v3 & 255) > 5) return SEDGE_DAMAGED;
     v4 = 1;
     waiting = get8(fop + 8 /* waiting */);
-    if (waiting > 1) return SEDGE_DAMAGED;
     vr = get8(fop + 15 /* vr */);
     v7 = 0;
     new_control = SEDGE_CONTROL_UNLOCK_DUE;
@@ -5466,28 +5374,16 @@ static uint32_t sedge_fop_tick_at(uint64_t fop)
         new_control = SEDGE_CONTROL_UNLOCK_SENT;
         break;
     default:
-        if (control > 2 || (vr & 255) != 0) return SEDGE_DAMAGED;
         v4 = 0;
         v7 = 1;
         new_control = control;
         break;
     }
     count = get8(fop + 13 /* count */);
-    if (count == 0) return SEDGE_DAMAGED;
     timer = get16(fop /* timer */);
-    if ((timer & 0xffff) == 0) return SEDGE_DAMAGED;
     limit = get8(fop + 12 /* limit */);
-    if ((limit & 255) == 0) return SEDGE_DAMAGED;
     due = get8(fop + 10 /* due */);
     sent = get8(fop + 9 /* sent */);
-    if ((due & 255) > (sent & 255)) return SEDGE_DAMAGED;
-    room = get8(fop + 4 /* room */);
-    v15 = room & 255;
-    if ((sent & 255) > v15) return SEDGE_DAMAGED;
-    vs = get8(fop + 6 /* vs */);
-    v17 = vs - get8(fop + 7 /* nn */);
-    if ((v17 & 255) > v15 || extend32(room, 0x80) > 0x7fffffffU || ((get8(fop + 11 /* window */) - 1) & 255) >= (room
-        & 255)) return SEDGE_DAMAGED;
     ticks = get16(fop + 2 /* ticks */);
     new_state = state;
     new_waiting = waiting;
@@ -5498,46 +5394,32 @@ static uint32_t sedge_fop_tick_at(uint64_t fop)
     switch (state) {
     case SEDGE_FOP_S2:
     case SEDGE_FOP_S3:
-        if (new_control != SEDGE_CONTROL_IDLE) return SEDGE_DAMAGED;
-        v18 = sent & 255;
-        if (v18 != (v17 & 255) || v18 == 0 || (ticks & 0xffff) == 0) return SEDGE_DAMAGED;
-        goto l9;
     case SEDGE_FOP_S4:
-        if ((sent & 255) != (v17 & 255) || ((sent | new_control) & 255) != 0) return SEDGE_DAMAGED;
-        if ((ticks & 0xffff) != 0) goto l9;
-        return SEDGE_DAMAGED;
+        goto l9;
     case SEDGE_FOP_S5:
-        if ((sent & 255) != (v17 & 255) || (sent & 255) != 0) return SEDGE_DAMAGED;
         switch (new_control) {
         case SEDGE_CONTROL_UNLOCK_DUE:
-            if ((v7 | (uint32_t)((vr & 255) == (vs & 255))) == 0) return SEDGE_DAMAGED;
             break;
         case SEDGE_CONTROL_UNLOCK_SENT:
-            if ((~v7 & (uint32_t)((vr & 255) != (vs & 255))) != 0) return SEDGE_DAMAGED;
-            if ((ticks & 0xffff) != 0) goto l9;
-            return SEDGE_DAMAGED;
+            goto l9;
         default:
-            return SEDGE_DAMAGED;
+            UNREACHABLE;
         }
         break;
     case SEDGE_FOP_S6:
-        if (((sent | new_control) & 255) != 0 || (waiting & 1) != 0) return SEDGE_DAMAGED;
         timer_now = 0;
-        v19 = 0;
-        if ((ticks & 0xffff) == 0) goto l7;
-        return SEDGE_DAMAGED;
+        v15 = 0;
+        goto l7;
     default:
-        if (new_control != SEDGE_CONTROL_IDLE || (sent & 255) != (v17 & 255) || ((uint32_t)((sent & 255) == 0) ^
-            (uint32_t)((ticks & 0xffff) != 0)) == 0) return SEDGE_DAMAGED;
         break;
     }
     if ((ticks & 0xffff) == 0) {
         timer_now = 0;
-        v19 = 0;
+        v15 = 0;
         goto l7;
     }
 l9:;
-    v19 = 1;
+    v15 = 1;
     if ((ticks & 0xffff) != 1) {
         timer_now = ticks - 1;
     } else { /* tick 1 to 4 */
@@ -5593,7 +5475,7 @@ l4:;
     new_vr = vr;
 l3:;
     answer = SEDGE_NO_ALERT;
-    new_ticks = (v19 != 0) ? timer_now : 0U;
+    new_ticks = (v15 != 0) ? timer_now : 0U;
 l1:;
     put8(fop + 15 /* vr */, new_vr);
     put8(fop + 14 /* control */, new_control);
@@ -5911,79 +5793,17 @@ static uint32_t sedge_accepted_beyond_at(uint32_t nn, uint32_t vs, uint32_t valu
 /* sedge_fop_accepted_beyond, crates/sedgechisel/src/sender/accepted.rt:21 */
 static uint32_t sedge_fop_accepted_beyond_at(uint64_t fop, uint32_t value, uint64_t accepted)
 {
-    uint32_t state, control_now, waiting, vr, v8, control, sent, room, v11, vs, nn, v14, ticks, v4, v2;
-    state = get8(fop + 5 /* state */);
-    if (((state - 1) & 255) > 5) return SEDGE_DAMAGED;
-    control_now = SEDGE_CONTROL_UNLOCK_DUE;
-    waiting = get8(fop + 8 /* waiting */);
-    if (waiting > 1) return SEDGE_DAMAGED;
-    vr = get8(fop + 15 /* vr */);
-    v8 = 0;
-    control = get8(fop + 14 /* control */);
-    switch (control) {
-    case SEDGE_CONTROL_SET_VR_DUE:
-        break;
-    case SEDGE_CONTROL_SET_VR_SENT:
-        control_now = SEDGE_CONTROL_UNLOCK_SENT;
-        break;
-    default:
-        if (control > 2) return SEDGE_DAMAGED;
-        v8 = 1;
-        control_now = control;
-        if ((vr & 255) != 0) return SEDGE_DAMAGED;
-        break;
-    }
-    if (get8(fop + 13 /* count */) == 0 || (get16(fop /* timer */) & 0xffff) == 0 || (get8(fop + 12 /* limit */) &
-        255) == 0) return SEDGE_DAMAGED;
-    sent = get8(fop + 9 /* sent */);
-    if ((get8(fop + 10 /* due */) & 255) > (sent & 255)) return SEDGE_DAMAGED;
-    room = get8(fop + 4 /* room */);
-    v11 = room & 255;
-    if ((sent & 255) > v11) return SEDGE_DAMAGED;
+    uint32_t vs, nn, v14, v4;
+    if (check_sedge_fop(fop) != SEDGE_OK) return SEDGE_DAMAGED;
     vs = get8(fop + 6 /* vs */);
     nn = get8(fop + 7 /* nn */);
     v14 = vs - nn;
-    if ((v14 & 255) > v11 || extend32(room, 0x80) > 0x7fffffffU || ((get8(fop + 11 /* window */) - 1) & 255) >= (room
-        & 255)) return SEDGE_DAMAGED;
-    ticks = get16(fop + 2 /* ticks */);
-    switch (state) {
-    case SEDGE_FOP_S2:
-    case SEDGE_FOP_S3:
-        if (control_now != SEDGE_CONTROL_IDLE) return SEDGE_DAMAGED;
-        v4 = sent & 255;
-        if (v4 != (v14 & 255) || v4 == 0 || (ticks & 0xffff) == 0) return SEDGE_DAMAGED;
-        break;
-    case SEDGE_FOP_S4:
-        if ((sent & 255) != (v14 & 255) || ((sent | control_now) & 255) != 0 || (ticks & 0xffff) == 0) return
-            SEDGE_DAMAGED;
-        break;
-    case SEDGE_FOP_S5:
-        if ((sent & 255) != (v14 & 255) || (sent & 255) != 0) return SEDGE_DAMAGED;
-        switch (control_now) {
-        case SEDGE_CONTROL_UNLOCK_DUE:
-            if ((v8 | (uint32_t)((vr & 255) == (vs & 255))) == 0) return SEDGE_DAMAGED;
-            break;
-        case SEDGE_CONTROL_UNLOCK_SENT:
-            if ((~v8 & (uint32_t)((vr & 255) != (vs & 255))) != 0 || (ticks & 0xffff) == 0) return SEDGE_DAMAGED;
-            break;
-        default:
-            return SEDGE_DAMAGED;
-        }
-        break;
-    case SEDGE_FOP_S6:
-        if (((sent | control_now) & 255) != 0 || (waiting & 1) != 0 || (ticks & 0xffff) != 0) return SEDGE_DAMAGED;
-        break;
-    default:
-        if (control_now != SEDGE_CONTROL_IDLE || (sent & 255) != (v14 & 255) || ((uint32_t)((sent & 255) == 0) ^
-            (uint32_t)((ticks & 0xffff) != 0)) == 0) return SEDGE_DAMAGED;
-        break;
-    }
-    v2 = 0;
+    v4 = 0;
     if ((vs & 255) != (nn & 255)) {
-        v2 = value - nn;
-        if ((v14 & 255) < (v2 & 255)) return SEDGE_ABSENT;
+        v4 = value - nn;
+        if ((v14 & 255) < (v4 & 255)) return SEDGE_ABSENT;
     }
-    put8(accepted, v2);
+    put8(accepted, v4);
     return SEDGE_OK;
 }
 
