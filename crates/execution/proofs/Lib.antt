@@ -1,0 +1,12 @@
+pub mod Lists
+pub mod Records
+pub mod Held
+pub mod Good
+pub mod Chain
+pub mod Keeping
+pub mod Renewal
+pub mod Link
+pub mod Events
+pub mod Reported
+pub mod Calls
+pub mod Deeds

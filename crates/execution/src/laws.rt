@@ -1,0 +1,12 @@
+// What holds of a ground and a board over any link.
+
+ghost use Rattle.execution.specs.Execution.{EachSystemCarriesOut};
+
+/// The board executes commands that the ground gave, in the order of their numbers and each at most once,
+/// whatever the link does to packets, orders and statuses, and whenever the board restarts or the ground
+/// program ends and opens its store again. Each report is true: a command that the ground reports as executed
+/// was executed completely, one that it reports as unknown does not begin later, and no command is reported
+/// before those with lower numbers. This holds under the assumptions `AreOwed`.
+pub fn law_of_execution()
+    ensures { EachSystemCarriesOut }
+{}

@@ -1,0 +1,7 @@
+//! A ground and a board, each with its own program, and any link between them: what is executed, and what is
+//! reported of it. The crate contains laws only.
+#![tactic(auto)]
+
+mod laws;
+
+pub use laws::law_of_execution;
