@@ -17,7 +17,7 @@ use Rattle.command_log.specs.Check.{check_of}
 use Rattle.command_log.specs.Packets.{CommandView, is_command, number_in, command_octets, command_fits, header_octets}
 use Rattle.command_log.specs.Exact.{IsOrderInRange}
 use Rattle.command_log.specs.Status.{status_octets, status_in, status_spelled, IsStatusInRange}
-use Rattle.command_log.specs.Board.{IsAmong, IsKnown}
+use Rattle.command_log.specs.Board.{Board, IsAmong, IsKnown}
 use Rattle.command_log.proofs.ReadBack.{read_status}
 use Rattle.command_log.proofs.Steps.{both}
 use Rattle.command_ledger.specs.declared.fault.LedgerFault.{LedgerFault}
@@ -41,6 +41,7 @@ use Rattle.execution.proofs.Good.{Past, Good, IsMore, good_highest, good_hears, 
 use Rattle.execution.proofs.Good.{good_told, up_after, up_more}
 use Rattle.execution.proofs.Chain.{chain_more}
 use Rattle.execution.proofs.Keeping.{OnGround, ledger_good, on_append}
+use Rattle.execution.proofs.Own.{IsOwnBoard, own_agrees}
 
 -- more is known
 pub ground_more : (stored : List Waiting) (g h : Past) (ws vs : List ℕ) (up high : ℕ) (l : LedgerState)
@@ -128,9 +129,9 @@ same_status octets status waits read range is e =
 
 on_some : (stored : List Waiting) (g : Past) (ws : List ℕ) (up : ℕ) (l : LedgerState) (store : List ℕ)
     (given : List Waiting) (e : Entry) (flag : Bool) → OnGround stored g ws up l store given
-    → OnGround stored g ws up (appended l e) store given
+    → (flag ≡ true → OnGround stored g ws up (appended l e) store given)
     → OnGround stored g ws up (appended_if l (if flag then Some e else None)) store given
-on_some stored g ws up l store given e true h more = more
+on_some stored g ws up l store given e true h more = more refl
 on_some stored g ws up l store given e false h more = h
 
 on_others : (stored : List Waiting) (g : Past) (ws : List ℕ) (up : ℕ) (l : LedgerState) (store : List ℕ)
@@ -144,17 +145,20 @@ pub on_status : (stored : List Waiting) (g : Past) (ws : List ℕ) (up : ℕ) (l
     (given : List Waiting) (status : Status)
     → ((kept : Record) → status ≡ Says kept → IsAmong kept g.said × IsFit (length stored) kept
     × ((n : ℕ) → IsKnown kept n → IsAmong n ws))
-    → ((mark : ℕ) → status ≡ Lost mark → IsAmong mark g.lost × (mark < 2 ^ 32)) → OnGround stored g ws up l store given
+    → ((mark : ℕ) → status ≡ Lost mark → IsAmong mark g.lost × (mark < 2 ^ 32)) → (b : Board)
+    → (g.quiet ≡ true → IsOwnBoard stored g.said g.directed b) → OnGround stored g ws up l store given
     → OnGround stored g ws up (appended_if l (news l status)) store given
-on_status stored g ws up l store given Changes said lost h = h
-on_status stored g ws up l store given Starts said lost h = h
-on_status stored g ws up l store given (Says kept) said lost h =
+on_status stored g ws up l store given Changes said lost b own h = h
+on_status stored g ws up l store given Starts said lost b own h = h
+on_status stored g ws up l store given (Says kept) said lost b own h =
     let is = said kept refl in
     let k = ledger_good stored g ws up l store given h in
     on_some stored g ws up l store given (Hears kept) (is_news l.state.standing.board kept) h
-    (on_append stored g ws up l store given given (Hears kept) refl is.1.range (sym (append-nil given))
-    (good_hears stored g ws up given l.state kept is.0 is.1 is.2 k) h)
-on_status stored g ws up l store given (Lost mark) said lost h =
+    (λ news.
+    on_append stored g ws up l store given given (Hears kept) refl is.1.range (sym (append-nil given))
+    (good_hears stored g ws up given l.state kept is.0 is.1 is.2
+    (λ q. own_agrees stored g ws up given l.state b kept q k (own q) is.0 is.1 news) k) h)
+on_status stored g ws up l store given (Lost mark) said lost b own h =
     let is = lost mark refl in
     let k = ledger_good stored g ws up l store given h in
     on_others stored g ws up l store given (Loses mark) (has_told l.state.standing.mark mark) h
@@ -288,7 +292,7 @@ on_told stored g ws up l store given noted h =
     let high : ℕ = up_after up k.start l.state.tells in
     let all : OnGround stored g ws high l store given =
     ground_more stored g g ws ws up high l store given
-    (record { directed = λ o i. i; said = λ r i. i; lost = λ m i. i; whole = λ n i. i })
+    (record { directed = λ o i. i; said = λ r i. i; lost = λ m i. i; whole = λ n i. i; quiet = λ q. q })
     (up_more up k.start l.state.tells) h in
     cond_both noted (appended l Tells) l (λ (m : LedgerState). OnGround stored g ws high m store given)
     (λ t. on_append stored g ws high l store given given Tells refl tt (sym (append-nil given))

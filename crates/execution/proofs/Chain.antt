@@ -200,6 +200,7 @@ good_live stored g ws up all s live h =
       start = h.start;
       reported = h.reported;
       tells = h.tells;
+      own = λ q. let o = h.own q in record { none = o.none; known = o.known; below = o.below; own = o.own };
     }
 
 pub good_same : (stored : List Waiting) (g : Past) (ws : List ℕ) (up : ℕ) (all : List Waiting) (s t : State)

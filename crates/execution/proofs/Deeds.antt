@@ -4,6 +4,8 @@ use Rattle.std.proofs.Common.{refl, sym, ◌∙◌, ap, subst, arith, drop, take
 use Rattle.std.proofs.Common.{Some, None, Option, Bool, true, Result, Ok, Err}
 use Rattle.std.specs.Prelude.{◌^◌}
 use Rattle.std.proofs.lemmas.Bool.{cond_both}
+use Rattle.std.specs.Prelude.{false}
+use Rattle.std.specs.List.{AllByRecursion}
 use Rattle.command_log.specs.declared.fault.LogFault.{LogFault}
 use Rattle.command_log.specs.declared.record.Record.{Record}
 use Rattle.command_log.specs.declared.status.Status.{Status}
@@ -48,31 +50,45 @@ use Rattle.execution.proofs.Events.{link_happens, link_told}
 use Rattle.execution.proofs.Reported.{AreMade, all_made_more, same_board, happens_grows, made_now, all_true, IsMade}
 use Rattle.execution.proofs.Calls.{ground_more, on_command, same_status, on_status, new_is, IsNew, order_is, packet_is}
 use Rattle.execution.proofs.Calls.{tells_first, on_told}
+use Rattle.execution.specs.Own.{IsOwn, IsCalm, AreCalm, EachCommandIsOwn}
+use Rattle.execution.proofs.Own.{IsOwnRecord}
 
-pub record Holds (s : System) : Type 0 where
+-- whether no order that brings a record is made
+pub record Holds (quiet : Bool) (s : System) : Type 0 where
   pub stored : List Waiting
   pub past : Past
   pub up : ℕ
   pub link : OnLink stored past s.packets s.orders s.statuses s.board
   pub ledger : OnGround stored past s.board.whole up s.ledger s.store s.given
   pub told : AreMade stored past.said s.board.whole s.board.packets up s.told
+  pub quiet_is : past.quiet ≡ quiet
+  pub own : quiet ≡ true → AllByRecursion (λ (r : Report). IsOwn r.tell) s.told
 
 -- nothing more is known
 no_more : (g : Past) (ws : List ℕ) → IsMore g g ws ws
-no_more g ws = record { directed = λ o i. i; said = λ r i. i; lost = λ m i. i; whole = λ n i. i }
+no_more g ws = record { directed = λ o i. i; said = λ r i. i; lost = λ m i. i; whole = λ n i. i; quiet = λ q. q }
 
-with_ledger : (s : System) (l : LedgerState) (h : Holds s)
-    → OnGround h.stored h.past s.board.whole h.up l s.store s.given → Holds (record s { ledger = l })
-with_ledger s l h is =
-    record { stored = h.stored; past = h.past; up = h.up; link = h.link; ledger = is; told = h.told }
+with_ledger : (quiet : Bool) (s : System) (l : LedgerState) (h : Holds quiet s)
+    → OnGround h.stored h.past s.board.whole h.up l s.store s.given → Holds quiet (record s { ledger = l })
+with_ledger quiet s l h is =
+    record {
+      stored = h.stored;
+      past = h.past;
+      up = h.up;
+      link = h.link;
+      ledger = is;
+      told = h.told;
+      quiet_is = h.quiet_is;
+      own = h.own;
+    }
 
 -- ---- calls of the ledger
 
-commands_so : (s : System) (tag on_map apid count : ℕ) (content : List ℕ) (fault : Option LedgerFault)
-    → give_fault s.ledger on_map apid count (length content) ≡ fault → tag < 2 ^ 64 → Holds s
-    → Holds (after_command s tag on_map (next_command s.ledger apid count content) fault)
-commands_so s tag on_map apid count content (Some fault) e small h = h
-commands_so s tag on_map apid count content None e small h =
+commands_so : (quiet : Bool) (s : System) (tag on_map apid count : ℕ) (content : List ℕ) (fault : Option LedgerFault)
+    → give_fault s.ledger on_map apid count (length content) ≡ fault → tag < 2 ^ 64 → Holds quiet s
+    → Holds quiet (after_command s tag on_map (next_command s.ledger apid count content) fault)
+commands_so quiet s tag on_map apid count content (Some fault) e small h = h
+commands_so quiet s tag on_map apid count content None e small h =
     record {
       stored = h.stored;
       past = h.past;
@@ -82,15 +98,18 @@ commands_so s tag on_map apid count content None e small h =
           on_command h.stored h.past s.board.whole h.up s.ledger s.store s.given tag on_map apid count content small e
           h.ledger;
       told = h.told;
+      quiet_is = h.quiet_is;
+      own = h.own;
     }
 
 -- what the status that arrives shows is so
-shown : (s : System) (h : Holds s) (octets : List ℕ) (read : Status × ℕ) → status_spelled octets ≡ Ok read
+shown : (quiet : Bool) (s : System) (h : Holds quiet s) (octets : List ℕ) (read : Status × ℕ)
+    → status_spelled octets ≡ Ok read
     → IsAmong octets s.statuses
     → ((kept : Record) → read.0 ≡ Says kept → IsAmong kept h.past.said × IsFit (length h.stored) kept
     × ((n : ℕ) → IsKnown kept n → IsAmong n s.board.whole))
     × ((mark : ℕ) → read.0 ≡ Lost mark → IsAmong mark h.past.lost × (mark < 2 ^ 32))
-shown s h octets read e among =
+shown quiet s h octets read e among =
     let g : Past = h.past in
     let is = all_at (IsSaid g.said g.lost) octets s.statuses among h.link.statuses_are in
     let same : read.0 ≡ is.status = same_status octets is.status is.waits read is.range is.spelled e in
@@ -109,18 +128,23 @@ shown s h octets read e among =
           (there, (lost mark there).0),
     )
 
-hears_so : (s : System) (octets : List ℕ) (read : Result (Status × ℕ) LogFault) → status_spelled octets ≡ read
-    → ((status : Status × ℕ) → status_spelled octets ≡ Ok status → IsAmong octets s.statuses) → Holds s
-    → Holds (record s { ledger = after_status s.ledger read })
-hears_so s octets (Err fault) e among h = h
-hears_so s octets (Ok status) e among h =
-    let is = shown s h octets status e (among status e) in
-    with_ledger s (after_status s.ledger (Ok status)) h
-    (on_status h.stored h.past s.board.whole h.up s.ledger s.store s.given status.0 is.0 is.1 h.ledger)
+hears_so : (quiet : Bool) (s : System) (octets : List ℕ) (read : Result (Status × ℕ) LogFault)
+    → status_spelled octets ≡ read
+    → ((status : Status × ℕ) → status_spelled octets ≡ Ok status → IsAmong octets s.statuses) → Holds quiet s
+    → Holds quiet (record s { ledger = after_status s.ledger read })
+hears_so quiet s octets (Err fault) e among h = h
+hears_so quiet s octets (Ok status) e among h =
+    let is = shown quiet s h octets status e (among status e) in
+    with_ledger quiet s (after_status s.ledger (Ok status)) h
+    (on_status h.stored h.past s.board.whole h.up s.ledger s.store s.given status.0 is.0 is.1 s.board h.link.own
+    h.ledger)
 
-made_so : (s : System) (entry : Entry) (o : Rebuild) → entry ≡ Rebuilds o → IsNew s.ledger o → Holds s
-    → Holds (record s { ledger = appended s.ledger entry })
-made_so s entry o e is h =
+made_so : (quiet : Bool) (s : System) (entry : Entry) (o : Rebuild) → entry ≡ Rebuilds o → IsNew s.ledger o
+    → (quiet ≡ true → ⊥)
+    → Holds quiet s → Holds quiet (record s { ledger = appended s.ledger entry })
+made_so quiet s entry o e is none h =
+    let quiet_is = h.quiet_is in
+    let loud : h.past.quiet ≡ true → ⊥ = λ q. none (sym quiet_is ∙ q) in
     let g : Past = h.past in
     let order : Order = orders.Rebuild o.mark o.boot o.last in
     let k = ledger_good h.stored g s.board.whole h.up s.ledger s.store s.given h.ledger in
@@ -146,33 +170,36 @@ made_so s entry o e is h =
     let after : OnGround h.stored past s.board.whole h.up (appended s.ledger (Rebuilds o)) s.store s.given =
     on_append h.stored past s.board.whole h.up s.ledger s.store s.given s.given (Rebuilds o) refl rebuild
     (sym (append-nil s.given))
-    (good_rebuilds h.stored past s.board.whole h.up s.given s.ledger.state o rebuild (inl refl) then_good) now in
+    (good_rebuilds h.stored past s.board.whole h.up s.given s.ledger.state o rebuild (inl refl) loud then_good) now in
     record {
       stored = h.stored;
       past = past;
       up = h.up;
       link =
-          link_directs h.stored g s.packets s.orders s.statuses s.board order fits h.link
+          link_directs h.stored g s.packets s.orders s.statuses s.board order fits (λ q. absurd (loud q)) h.link
           (mark_lost, omega (arith, low, last));
       ledger =
           subst (λ (x : Entry). OnGround h.stored past s.board.whole h.up (appended s.ledger x) s.store s.given) (sym e)
           after;
       told = h.told;
+      quiet_is = h.quiet_is;
+      own = h.own;
     }
 
-rebuilds_so : (s : System) (made : Result (Option Entry) LedgerFault) → rebuild_of s.ledger ≡ made → Holds s
-    → Holds (record s { ledger = after_rebuild s.ledger made })
-rebuilds_so s (Err fault) e h = h
-rebuilds_so s (Ok None) e h = h
-rebuilds_so s (Ok (Some entry)) e h =
-    let is = new_is s.ledger s.ledger.state.standing.mark entry refl e in made_so s entry is.0 is.1 is.2 h
+rebuilds_so : (quiet : Bool) (s : System) (made : Result (Option Entry) LedgerFault) → rebuild_of s.ledger ≡ made
+    → (quiet ≡ true → ⊥) → Holds quiet s → Holds quiet (record s { ledger = after_rebuild s.ledger made })
+rebuilds_so quiet s (Err fault) e none h = h
+rebuilds_so quiet s (Ok None) e none h = h
+rebuilds_so quiet s (Ok (Some entry)) e none h =
+    let is = new_is s.ledger s.ledger.state.standing.mark entry refl e in made_so quiet s entry is.0 is.1 is.2 none h
 
 -- ---- the store
 
-appends_so : (s : System) (view : NextView) → StoresAll s.ledger.unstored view → Holds s → Holds (after_append s view)
-appends_so s Nothing is h = h
-appends_so s (views.Says tell) is h = h
-appends_so s (Stores octets) is h =
+appends_so : (quiet : Bool) (s : System) (view : NextView) → StoresAll s.ledger.unstored view → Holds quiet s
+    → Holds quiet (after_append s view)
+appends_so quiet s Nothing is h = h
+appends_so quiet s (views.Says tell) is h = h
+appends_so quiet s (Stores octets) is h =
     let g : Past = h.past in
     let more : List Waiting = all_in h.ledger.new in
     let after = on_stored h.stored g s.board.whole h.up s.ledger s.store s.given h.ledger in
@@ -190,14 +217,17 @@ appends_so s (Stores octets) is h =
       told =
           all_made_more h.stored more g.said g.said s.board.whole s.board.whole s.board.packets s.board.packets h.up
           s.told (λ r i. i) (same_board g.said s.board.whole s.board.packets) h.told;
+      quiet_is = h.quiet_is;
+      own = h.own;
     }
 
-crash_so : (s : System) (octets : List ℕ) (n : ℕ) → octets ≡ s.store ++ take n s.ledger.unstored → Holds s
-    → Holds (after_crash s octets)
-crash_so s octets n e h =
+crash_so : (quiet : Bool) (s : System) (octets : List ℕ) (n : ℕ) → octets ≡ s.store ++ take n s.ledger.unstored
+    → Holds quiet s
+    → Holds quiet (after_crash s octets)
+crash_so quiet s octets n e h =
     let g : Past = h.past in
     let is = on_crash h.stored g s.board.whole h.up s.ledger s.store s.given s.ledger.max_packet n h.ledger in
-    let after : Holds (after_crash s (s.store ++ take n s.ledger.unstored)) =
+    let after : Holds quiet (after_crash s (s.store ++ take n s.ledger.unstored)) =
     record {
       stored = h.stored ++ is.more;
       past = g;
@@ -207,12 +237,14 @@ crash_so s octets n e h =
       told =
           all_made_more h.stored is.more g.said g.said s.board.whole s.board.whole s.board.packets s.board.packets h.up
           s.told (λ r i. i) (same_board g.said s.board.whole s.board.packets) h.told;
+      quiet_is = h.quiet_is;
+      own = h.own;
     } in
-    subst (λ (xs : List ℕ). Holds (after_crash s xs)) (sym e) after
+    subst (λ (xs : List ℕ). Holds quiet (after_crash s xs)) (sym e) after
 
-renews_so : (s : System) → is_at_rest s.ledger ≡ true → Holds s
-    → Holds (after_renewal s (fresh_octets s.ledger.state))
-renews_so s rests h =
+renews_so : (quiet : Bool) (s : System) → is_at_rest s.ledger ≡ true → Holds quiet s
+    → Holds quiet (after_renewal s (fresh_octets s.ledger.state))
+renews_so quiet s rests h =
     record {
       stored = h.stored;
       past = h.past;
@@ -222,15 +254,17 @@ renews_so s rests h =
           on_renewed h.stored h.past s.board.whole h.up s.ledger s.store s.given (length (fresh_octets s.ledger.state))
           rests h.ledger;
       told = h.told;
+      quiet_is = h.quiet_is;
+      own = h.own;
     }
 
 -- ---- a report
 
-reports_so : (s : System) (noted : Bool) (view : NextView) → next_of s.ledger ≡ view → Holds s
-    → Holds (after_report s noted view)
-reports_so s noted Nothing e h = h
-reports_so s noted (Stores octets) e h = h
-reports_so s noted (views.Says tell) e h =
+reports_so : (quiet : Bool) (s : System) (noted : Bool) (view : NextView) → next_of s.ledger ≡ view → Holds quiet s
+    → Holds quiet (after_report s noted view)
+reports_so quiet s noted Nothing e h = h
+reports_so quiet s noted (Stores octets) e h = h
+reports_so quiet s noted (views.Says tell) e h =
     let g : Past = h.past in
     let l : LedgerState = s.ledger in
     let k = ledger_good h.stored g s.board.whole h.up l s.store s.given h.ledger in
@@ -252,14 +286,21 @@ reports_so s noted (views.Says tell) e h =
       link = h.link;
       ledger = on_told h.stored g s.board.whole h.up l s.store s.given noted h.ledger;
       told = (h.up, made, h.told);
+      quiet_is = h.quiet_is;
+      own =
+          λ q.
+          let own = (k.own (h.quiet_is ∙ q)).own in
+          let now : AllByRecursion IsOwn (tell ∷ rest) = subst (AllByRecursion IsOwn) first own in
+          (now.0, h.own q);
     }
 
 -- ---- what is sent
 
-sends_so : (s : System) (number : ℕ) (found : Option Waiting) → packet_of s.ledger number ≡ found → Holds s
-    → Holds (after_packet s found)
-sends_so s number None e h = h
-sends_so s number (Some c) e h =
+sends_so : (quiet : Bool) (s : System) (number : ℕ) (found : Option Waiting) → packet_of s.ledger number ≡ found
+    → Holds quiet s
+    → Holds quiet (after_packet s found)
+sends_so quiet s number None e h = h
+sends_so quiet s number (Some c) e h =
     let is = packet_is h.stored h.past s.board.whole h.up s.ledger s.store s.given number c e h.ledger in
     record {
       stored = h.stored;
@@ -268,13 +309,15 @@ sends_so s number (Some c) e h =
       link = link_sends h.stored h.past s.packets s.orders s.statuses s.board c.packet is h.link;
       ledger = h.ledger;
       told = h.told;
+      quiet_is = h.quiet_is;
+      own = h.own;
     }
 
-order_sent : (s : System) (apid count : ℕ) (order : Order) (h : Holds s)
+order_sent : (quiet : Bool) (s : System) (apid count : ℕ) (order : Order) (h : Holds quiet s)
     → (order_fits apid count ≡ true → IsAmong order h.past.directed × IsOrderInRange order)
-    → Holds (after_order s apid count (Some order))
-order_sent s apid count order h is =
-    cond_both (order_fits apid count) (record s { orders = order_octets apid count order ∷ s.orders }) s Holds
+    → Holds quiet (after_order s apid count (Some order))
+order_sent quiet s apid count order h is =
+    cond_both (order_fits apid count) (record s { orders = order_octets apid count order ∷ s.orders }) s (Holds quiet)
     (λ t.
     let made = is t in
     let sent : IsSentOrder h.past.directed (order_octets apid count order) =
@@ -288,45 +331,52 @@ order_sent s apid count order h is =
           h.link;
       ledger = h.ledger;
       told = h.told;
+      quiet_is = h.quiet_is;
+      own = h.own;
     })
     (λ f. h)
 
-orders_so : (s : System) (apid count : ℕ) (found : Option Order) → order_of s.ledger ≡ found → Holds s
-    → Holds (after_order s apid count found)
-orders_so s apid count None e h = h
-orders_so s apid count (Some order) e h =
+orders_so : (quiet : Bool) (s : System) (apid count : ℕ) (found : Option Order) → order_of s.ledger ≡ found
+    → Holds quiet s
+    → Holds quiet (after_order s apid count found)
+orders_so quiet s apid count None e h = h
+orders_so quiet s apid count (Some order) e h =
     let k = ledger_good h.stored h.past s.board.whole h.up s.ledger s.store s.given h.ledger in
-    order_sent s apid count order h
+    order_sent quiet s apid count order h
     (λ t. order_is h.stored h.past s.board.whole h.up s.ledger s.given order e k)
 
 -- an order to restart may be made at any time
-restart_so : (s : System) (apid count : ℕ) → Holds s
-    → Holds (after_order s apid count (Some (orders.Restart s.ledger.state.standing.board.boot)))
-restart_so s apid count h =
+restart_so : (quiet : Bool) (s : System) (apid count : ℕ) → Holds quiet s
+    → Holds quiet (after_order s apid count (Some (orders.Restart s.ledger.state.standing.board.boot)))
+restart_so quiet s apid count h =
     let g : Past = h.past in
     let order : Order = orders.Restart s.ledger.state.standing.board.boot in
     let k = ledger_good h.stored g s.board.whole h.up s.ledger s.store s.given h.ledger in
     let range : IsOrderInRange order = k.board.range.boot in
     let fits : IsFitOrder (length h.stored) order = record { range = range; low = omega arith } in
     let past : Past = with_order g order in
-    let made : Holds s =
+    let made : Holds quiet s =
     record {
       stored = h.stored;
       past = past;
       up = h.up;
-      link = link_directs h.stored g s.packets s.orders s.statuses s.board order fits h.link tt;
+      link = link_directs h.stored g s.packets s.orders s.statuses s.board order fits (λ q. tt) h.link tt;
       ledger =
           ground_more h.stored g past s.board.whole s.board.whole h.up h.up s.ledger s.store s.given
           (more_orders g order s.board.whole) (omega arith) h.ledger;
       told = h.told;
+      quiet_is = h.quiet_is;
+      own = h.own;
     } in
-    order_sent s apid count order made (λ t. (inl refl, range))
+    order_sent quiet s apid count order made (λ t. (inl refl, range))
 
 -- ---- on board
 
-happens_so : (s : System) (event : Event) → IsOwed s (Happens event) → Holds s
-    → Holds (record s { board = board_step s.board event })
-happens_so s event is h =
+happens_so : (quiet : Bool) (s : System) (event : Event) → IsOwed s (Happens event)
+    → (quiet ≡ true → s.board.executor.kept.boot < 4294967295) → Holds quiet s
+    → Holds quiet (record s { board = board_step s.board event })
+happens_so quiet s event is calm h =
+    let quiet_is = h.quiet_is in
     let g : Past = h.past in
     let after : Board = board_step s.board event in
     let grows = happens_grows h.stored g s.packets s.orders s.statuses s.board event h.link in
@@ -336,19 +386,23 @@ happens_so s event is h =
       stored = h.stored;
       past = g;
       up = h.up;
-      link = link_happens s h.stored g event is h.link;
+      link =
+          link_happens s h.stored g event is (λ q. calm (sym quiet_is ∙ q)) h.link;
       ledger =
           ground_more h.stored g g s.board.whole after.whole h.up h.up s.ledger s.store s.given
-          (record { directed = λ o i. i; said = λ r i. i; lost = λ m i. i; whole = grows.whole }) (omega arith)
+          (record { directed = λ o i. i; said = λ r i. i; lost = λ m i. i; whole = grows.whole; quiet = λ q. q })
+          (omega arith)
           h.ledger;
       told =
           subst (λ (cs : List Waiting). AreMade cs g.said after.whole after.packets h.up s.told)
           (append-nil h.stored) told;
+      quiet_is = h.quiet_is;
+      own = h.own;
     }
 
-status_so : (s : System) (waits : ℕ) → Holds s
-    → Holds (record s { statuses = status_octets (status_of s.board.executor) waits ∷ s.statuses })
-status_so s waits h =
+status_so : (quiet : Bool) (s : System) (waits : ℕ) → Holds quiet s
+    → Holds quiet (record s { statuses = status_octets (status_of s.board.executor) waits ∷ s.statuses })
+status_so quiet s waits h =
     let g : Past = h.past in
     let is = link_told h.stored g s.board.whole s.packets s.orders s.statuses s.board waits h.link in
     let told = all_made_more h.stored [] g.said is.past.said s.board.whole s.board.whole s.board.packets
@@ -364,38 +418,45 @@ status_so s waits h =
       told =
           subst (λ (cs : List Waiting). AreMade cs is.past.said s.board.whole s.board.packets h.up s.told)
           (append-nil h.stored) told;
+      quiet_is = is.quiet ∙ h.quiet_is;
+      own = h.own;
     }
 
 -- ---- each deed
 
-step_holds : (s : System) (deed : Deed) → IsOwed s deed → Holds s → Holds (system_step s deed)
-step_holds s (Commands tag on_map apid count content) is h =
-    commands_so s tag on_map apid count content (give_fault s.ledger on_map apid count (length content)) refl is h
-step_holds s (Hears octets) is h = hears_so s octets (status_spelled octets) refl is h
-step_holds s deeds.Rebuilds is h = rebuilds_so s (rebuild_of s.ledger) refl h
-step_holds s Appends is h = appends_so s (next_of s.ledger) (stores_all s.ledger) h
-step_holds s (Reports noted) is h = reports_so s noted (next_of s.ledger) refl h
-step_holds s Renews is h =
-    cond_both (is_at_rest s.ledger) (after_renewal s (fresh_octets s.ledger.state)) s Holds (λ t. renews_so s t h)
+step_holds : (quiet : Bool) (s : System) (deed : Deed) → IsOwed s deed → (quiet ≡ true → IsCalm s deed) → Holds quiet s
+    → Holds quiet (system_step s deed)
+step_holds quiet s (Commands tag on_map apid count content) is calm h =
+    commands_so quiet s tag on_map apid count content (give_fault s.ledger on_map apid count (length content)) refl is h
+step_holds quiet s (Hears octets) is calm h = hears_so quiet s octets (status_spelled octets) refl is h
+step_holds quiet s deeds.Rebuilds is calm h = rebuilds_so quiet s (rebuild_of s.ledger) refl calm h
+step_holds quiet s Appends is calm h = appends_so quiet s (next_of s.ledger) (stores_all s.ledger) h
+step_holds quiet s (Reports noted) is calm h = reports_so quiet s noted (next_of s.ledger) refl h
+step_holds quiet s Renews is calm h =
+    cond_both (is_at_rest s.ledger) (after_renewal s (fresh_octets s.ledger.state)) s (Holds quiet)
+    (λ t. renews_so quiet s t h)
     (λ f. h)
-step_holds s (Crashes torn) is h =
+step_holds quiet s (Crashes torn) is calm h =
     let due : List ℕ = take torn (due_octets (next_of s.ledger)) in
     let left = torn_of s.ledger torn (next_of s.ledger) (stores_all s.ledger) in
-    crash_so s (s.store ++ due) left.0 (ap (λ (xs : List ℕ). s.store ++ xs) left.1) h
-step_holds s (Sends number) is h = sends_so s number (packet_of s.ledger number) refl h
-step_holds s (Orders apid count) is h = orders_so s apid count (order_of s.ledger) refl h
-step_holds s (OrdersRestart apid count) is h = restart_so s apid count h
-step_holds s (Happens event) is h = happens_so s event is h
-step_holds s (SendsStatus waits) is h = status_so s waits h
+    crash_so quiet s (s.store ++ due) left.0 (ap (λ (xs : List ℕ). s.store ++ xs) left.1) h
+step_holds quiet s (Sends number) is calm h = sends_so quiet s number (packet_of s.ledger number) refl h
+step_holds quiet s (Orders apid count) is calm h = orders_so quiet s apid count (order_of s.ledger) refl h
+step_holds quiet s (OrdersRestart apid count) is calm h = restart_so quiet s apid count h
+step_holds quiet s (Happens event) is calm h = happens_so quiet s event is calm h
+step_holds quiet s (SendsStatus waits) is calm h = status_so quiet s waits h
 
-run_holds : (s : System) (deeds : List Deed) → AreOwed s deeds → Holds s → Holds (system_run s deeds)
-run_holds s [] is h = h
-run_holds s (deed ∷ deeds) is h = run_holds (system_step s deed) deeds is.1 (step_holds s deed is.0 h)
+run_holds : (quiet : Bool) (s : System) (deeds : List Deed) → AreOwed s deeds → (quiet ≡ true → AreCalm s deeds)
+    → Holds quiet s
+    → Holds quiet (system_run s deeds)
+run_holds quiet s [] is calm h = h
+run_holds quiet s (deed ∷ deeds) is calm h =
+    run_holds quiet (system_step s deed) deeds is.1 (λ q. (calm q).1) (step_holds quiet s deed is.0 (λ q. (calm q).0) h)
 
-new_holds : (max_packet : ℕ) → Holds (new_system max_packet)
-new_holds max_packet =
+new_holds : (quiet : Bool) (max_packet : ℕ) → Holds quiet (new_system max_packet)
+new_holds quiet max_packet =
     let fit : IsFit 0 (no_commands 0 0) = fit_brought 0 0 0 (omega arith) (omega arith) (omega arith) in
-    let good : Good [] (record { directed = []; said = []; lost = [] }) [] 0 [] new_state =
+    let good : Good [] (record { directed = []; said = []; lost = []; quiet = quiet }) [] 0 [] new_state =
     record {
       rest = [];
       goes_on = refl;
@@ -408,17 +469,20 @@ new_holds max_packet =
       start = 0;
       reported = omega arith;
       tells = refl;
+      own = λ q. record { none = refl; known = inl refl; below = omega arith; own = tt };
     } in
+    let first : IsOwnRecord [] [] (no_commands 0 0) =
+    record { fit = fit; history = refl; later = λ earlier among. absurd among } in
     record {
       stored = [];
-      past = record { directed = []; said = []; lost = [] };
+      past = record { directed = []; said = []; lost = []; quiet = quiet };
       up = 0;
       link =
           record {
             high = 0;
             low = omega arith;
             reached = record { deeds = []; owed = tt; is = refl };
-            records = record { first = fit; second = fit; now = fit };
+            records = record { first = fit; second = fit; now = fit; same = tt };
             held = record { packets = tt; held = tt };
             packets_are = tt;
             orders_are = tt;
@@ -426,6 +490,13 @@ new_holds max_packet =
             said = λ kept among. absurd among;
             lost = λ mark among. absurd among;
             directed = λ order among. absurd among;
+            own =
+                λ q. record {
+                  records = record { first = first; second = first; now = first; same = tt };
+                  histories = λ kept among. absurd among;
+                  pairs = λ one two a b low. absurd a;
+                  none = λ order among. absurd among;
+                };
           };
       ledger =
           record {
@@ -441,6 +512,8 @@ new_holds max_packet =
             given_is = refl;
           };
       told = refl;
+      quiet_is = refl;
+      own = λ q. tt;
     }
 
 given_all : (stored rest given : List Waiting) (packet : List ℕ) → given ≡ stored ++ rest → IsGiven stored packet
@@ -449,14 +522,15 @@ given_all stored rest given packet e is =
     subst (λ (cs : List Waiting). IsGiven cs packet) (sym e)
     (is.0, (is.1.0, get_append stored rest (number_in packet - 1) is.0 is.1.1), is.2)
 
-said_so : (s : System) (h : Holds s) (octets : List ℕ) (kept : Record) (waits n : ℕ) → IsAmong octets s.statuses
+said_so : (quiet : Bool) (s : System) (h : Holds quiet s) (octets : List ℕ) (kept : Record) (waits n : ℕ)
+    → IsAmong octets s.statuses
     → status_spelled octets ≡ Ok (Says kept, waits) → IsKnown kept n → IsAmong n s.board.whole
-said_so s h octets kept waits n among e known =
-    let is = shown s h octets (Says kept, waits) e among in
+said_so quiet s h octets kept waits n among e known =
+    let is = shown quiet s h octets (Says kept, waits) e among in
     (is.0 kept refl).2 n known
 
-are_carried_out : (s : System) → Holds s → IsCarriedOut s
-are_carried_out s h =
+are_carried_out : (quiet : Bool) (s : System) → Holds quiet s → IsCarriedOut s
+are_carried_out quiet s h =
     let so = reached_so (pair_of s.packets s.board h.stored h.past h.link.high) h.link.reached in
     record {
       once = so.once;
@@ -464,7 +538,7 @@ are_carried_out s h =
           all_more (IsGiven h.stored) (IsGiven s.given)
           (λ packet is. given_all h.stored (all_in h.ledger.new) s.given packet h.ledger.given_is is) s.board.packets
           h.link.held.packets;
-      said = λ octets kept waits n among e known. said_so s h octets kept waits n among e known;
+      said = λ octets kept waits n among e known. said_so quiet s h octets kept waits n among e known;
       whole = so.whole;
       told = (
         h.up,
@@ -474,5 +548,9 @@ are_carried_out s h =
 
 pub each_system : EachSystemCarriesOut
 each_system max_packet deeds is =
-    are_carried_out (system_run (new_system max_packet) deeds)
-    (run_holds (new_system max_packet) deeds is (new_holds max_packet))
+    are_carried_out false (system_run (new_system max_packet) deeds)
+    (run_holds false (new_system max_packet) deeds is (λ q. absurd (cc q)) (new_holds false max_packet))
+
+pub each_is_own : EachCommandIsOwn
+each_is_own max_packet deeds is calm =
+    (run_holds true (new_system max_packet) deeds is (λ q. calm) (new_holds true max_packet)).own refl

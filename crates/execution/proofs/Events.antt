@@ -3,6 +3,7 @@ use Rattle.std.proofs.Common.{◌≡◌, ℕ, ◌<◌, inl, inr, List, ◌∷◌
 use Rattle.std.proofs.Common.{refl, sym, ◌∙◌, ap, subst, arith, Result, Ok, Err}
 use Rattle.std.specs.Prelude.{◌^◌}
 use Rattle.std.specs.List.{AllByRecursion}
+use Rattle.std.specs.Prelude.{⊤, true}
 use Rattle.command_log.specs.declared.fault.LogFault.{LogFault}
 use Rattle.command_log.specs.declared.record.Record.{Record}
 use Rattle.command_log.specs.declared.status.Status.{Status}
@@ -27,6 +28,7 @@ use Rattle.execution.proofs.Records.{records_step, reports, Reports, IsFit, Keep
 use Rattle.execution.proofs.Records.{fit_executed, fit_started, fit_begun, fit_brought}
 use Rattle.execution.proofs.Held.{TakesGiven, held_step}
 use Rattle.execution.proofs.Good.{Past, IsMore}
+use Rattle.execution.proofs.Own.{IsOwnRecord, IsOwnBoard, IsNoRebuild, own_begun, own_executed, started_own, own_said}
 use Rattle.execution.proofs.Link.{OnLink, IsSaid, IsSentOrder, IsFitOrder, IsReported, pair_of, given_low}
 use Rattle.execution.proofs.Link.{IsReached, reached_step}
 
@@ -71,7 +73,7 @@ keeps_fit : (s : System) (stored : List Waiting) (g : Past) (event : Event) → 
     → OnLink stored g s.packets s.orders s.statuses s.board
     → Keeps (IsFit (length stored)) (λ mark. mark < 2 ^ 32) s.board event
 keeps_fit s stored g (Offers octets) is h =
-    λ t before.
+    λ t rests before.
     let parts = taken_parts s.board.executor octets t in
     let number = parts.3 in
     let given = all_at (IsGiven stored) octets s.packets (is parts.0) h.packets_are in
@@ -96,10 +98,51 @@ takes_given s stored g (Restarts mark) is h = tt
 takes_given s stored g (BreaksOff mark) is h = tt
 takes_given s stored g (Spoils place) is h = tt
 
+no_order : (stored : List Waiting) (said : List Record) (s : ExecutorState) (read : Result Order LogFault)
+    → ((order : Order) → read ≡ Ok order → IsNoRebuild order) → KeepsOrder (IsOwnRecord stored said) s read
+no_order stored said s (Err e) none = tt
+no_order stored said s (Ok (Restart boot)) none = tt
+no_order stored said s (Ok (Rebuild mark boot last)) none = absurd (none (Rebuild mark boot last) refl)
+
+keeps_own : (s : System) (stored : List Waiting) (g : Past) (event : Event) → IsOfTheLink s event
+    → OnLink stored g s.packets s.orders s.statuses s.board → s.board.executor.kept.boot < 4294967295
+    → ((order : Order) → IsAmong order g.directed → IsNoRebuild order)
+    → Keeps (IsOwnRecord stored g.said) (λ mark. ⊤) s.board event
+keeps_own s stored g (Offers octets) is h small none =
+    λ t rests before.
+    let parts = taken_parts s.board.executor octets t in
+    let given = all_at (IsGiven stored) octets s.packets (is parts.0) h.packets_are in
+    own_begun stored g.said s.board.executor.kept octets rests parts.2 parts.3 given before
+keeps_own s stored g (Orders octets) is h small none =
+    no_order stored g.said s.board.executor (order_at octets)
+    (λ order e. none order (order_made g.directed s.orders octets order h.orders_are (is order e) e))
+keeps_own s stored g Acts is h small none = (
+  started_own stored g.said s.board.executor.kept s.board.executor.kept.begun refl small,
+  own_executed stored g.said s.board.executor.kept,
+)
+keeps_own s stored g (Restarts mark) is h small none = tt
+keeps_own s stored g (BreaksOff mark) is h small none = tt
+keeps_own s stored g (Spoils place) is h small none = tt
+
+own_happens : (s : System) (stored : List Waiting) (g : Past) (event : Event) → IsOfTheLink s event
+    → OnLink stored g s.packets s.orders s.statuses s.board → s.board.executor.kept.boot < 4294967295
+    → IsOwnBoard stored g.said g.directed s.board
+    → IsOwnBoard stored g.said g.directed (board_step s.board event)
+own_happens s stored g event is h small own =
+    record {
+      records =
+          records_step (IsOwnRecord stored g.said) (λ mark. ⊤) s.board event
+          (keeps_own s stored g event is h small own.none) own.records;
+      histories = own.histories;
+      pairs = own.pairs;
+      none = own.none;
+    }
+
 pub link_happens : (s : System) (stored : List Waiting) (g : Past) (event : Event) → IsOfTheLink s event
+    → (g.quiet ≡ true → s.board.executor.kept.boot < 4294967295)
     → OnLink stored g s.packets s.orders s.statuses s.board
     → OnLink stored g s.packets s.orders s.statuses (board_step s.board event)
-link_happens s stored g event is h =
+link_happens s stored g event is calm h =
     record {
       high = h.high;
       low = h.low;
@@ -116,6 +159,7 @@ link_happens s stored g event is h =
       said = h.said;
       lost = h.lost;
       directed = h.directed;
+      own = λ q. own_happens s stored g event is h (calm q) (h.own q);
     }
 
 -- ---- a status
@@ -124,6 +168,7 @@ pub record Told (stored : List Waiting) (g : Past) (ws : List ℕ) (packets orde
     (board : Board) : Type 0 where
   pub past : Past
   pub more : IsMore g past ws ws
+  pub quiet : past.quiet ≡ g.quiet
   pub holds : OnLink stored past packets orders sent board
 
 kept_more : (said : List Record) (lost : List ℕ) (new : Record) (status : Status)
@@ -178,7 +223,8 @@ told_none stored g ws packets orders sent board status waits range kept h =
     let lost = h.lost in
     record {
       past = g;
-      more = record { directed = λ o i. i; said = λ r i. i; lost = λ m i. i; whole = λ n i. i };
+      more = record { directed = λ o i. i; said = λ r i. i; lost = λ m i. i; whole = λ n i. i; quiet = λ q. q };
+      quiet = refl;
       holds =
           record {
             high = h.high;
@@ -198,6 +244,7 @@ told_none stored g ws packets orders sent board status waits range kept h =
                 let before = lost mark among in
                 (before.0, reported_more sent (status_octets status waits) mark before.1);
             directed = h.directed;
+            own = h.own;
           };
     }
 
@@ -214,7 +261,8 @@ told_by stored g ws packets orders sent board (Says kept) waits e fits h =
     record { status = Says kept; waits = waits; spelled = refl; range = fits.range; kept = inl refl } in
     record {
       past = past;
-      more = record { directed = λ o i. i; said = λ r i. inr i; lost = λ m i. i; whole = λ n i. i };
+      more = record { directed = λ o i. i; said = λ r i. inr i; lost = λ m i. i; whole = λ n i. i; quiet = λ q. q };
+      quiet = refl;
       holds =
           record {
             high = h.high;
@@ -240,6 +288,7 @@ told_by stored g ws packets orders sent board (Says kept) waits e fits h =
                 let before = lost mark among in
                 (before.0, reported_more sent (status_octets (Says kept) waits) mark before.1);
             directed = h.directed;
+            own = λ q. own_said stored g.said g.directed board kept e (h.own q);
           };
     }
 told_by stored g ws packets orders sent board (statuses.Lost mark) waits e fits h =
@@ -251,7 +300,8 @@ told_by stored g ws packets orders sent board (statuses.Lost mark) waits e fits 
     record { status = statuses.Lost mark; waits = waits; spelled = refl; range = fits; kept = inl refl } in
     record {
       past = past;
-      more = record { directed = λ o i. i; said = λ r i. i; lost = λ m i. inr i; whole = λ n i. i };
+      more = record { directed = λ o i. i; said = λ r i. i; lost = λ m i. inr i; whole = λ n i. i; quiet = λ q. q };
+      quiet = refl;
       holds =
           record {
             high = h.high;
@@ -277,6 +327,7 @@ told_by stored g ws packets orders sent board (statuses.Lost mark) waits e fits 
                       let before = lost m earlier in (before.0, reported_more sent octets m before.1)
                 ];
             directed = h.directed;
+            own = h.own;
           };
     }
 told_by stored g ws packets orders sent board Changes waits e fits h =

@@ -6,6 +6,8 @@ use Rattle.std.proofs.Common.{Some, None, Option, Bool, true, false, IfSome, eqb
 use Rattle.std.proofs.lemmas.Bool.{leb-true, le-ltb, cond_both}
 use Rattle.std.proofs.lemmas.List.{drop-drop, drop-append-le, length-take-le}
 use Rattle.std.specs.Prelude.{◌^◌, ◌&&◌, ◌==◌, nat_lt, nat_le, if◌then◌else◌, slice_get, option_to_list}
+use Rattle.std.proofs.Common.{◌⊎◌, inl, inr}
+use Rattle.std.specs.List.{AllByRecursion}
 use Rattle.std.specs.Int.{bit_at}
 use Rattle.command_log.specs.declared.record.Record.{Record}
 use Rattle.command_log.specs.declared.packets.Order.{Order}
@@ -23,6 +25,7 @@ use Rattle.command_ledger.specs.Kept.{IsMark, IsOrder, IsRebuild}
 use Rattle.command_ledger.specs.State.{State, Rebuilds, Tells, highest, after_entry}
 use Rattle.command_ledger.specs.State.{hears, heard, gives, loses, agrees, fates, passed, below_after, doubt_after}
 use Rattle.command_ledger.specs.State.{restarted, foreign}
+use Rattle.execution.specs.Own.{IsOwn}
 use Rattle.execution.proofs.Lists.{get_append, get_front, get_drop, get_take, get_low, IsPacket, ArePackets}
 use Rattle.execution.proofs.Lists.{packets_push}
 use Rattle.execution.proofs.Records.{IsFit, last_reached, fit_more}
@@ -32,6 +35,8 @@ pub record Past : Type 0 where
   pub directed : List Order
   pub said : List Record
   pub lost : List ℕ
+  -- whether no order that brings a record was made
+  pub quiet : Bool
 
 -- ---- reports
 
@@ -121,6 +126,40 @@ pub record Remembers (g : Past) (s : Standing) : Type 0 where
   pub order : IsOrder s.order
   pub directed : IfSome s.order (λ o. IsAmong (orders.Rebuild o.mark o.boot o.last) g.directed)
 
+-- what holds if no order that brings a record was made: the board's commands are the ledger's
+pub record IsOwnState (said : List Record) (s : State) : Type 0 where
+  pub none : s.standing.order ≡ None
+  pub known : (s.standing.board ≡ no_commands 0 0) ⊎ IsAmong s.standing.board said
+  pub below : s.standing.below ≤ s.standing.board.last
+  pub own : AllByRecursion IsOwn s.tells
+
+own_both : (xs ys : List Tell) → AllByRecursion IsOwn xs → AllByRecursion IsOwn ys → AllByRecursion IsOwn (xs ++ ys)
+own_both [] ys one two = two
+own_both (x ∷ xs) ys one two = (one.0, own_both xs ys one.1 two)
+
+own_restart : (flag : Bool) (boot : ℕ)
+    → AllByRecursion IsOwn (option_to_list (if flag then None else Some (Restarted boot)))
+own_restart true boot = tt
+own_restart false boot = (tt, tt)
+
+own_agreed : (flag : Bool) (first last : ℕ) → flag ≡ true
+    → AllByRecursion IsOwn (option_to_list (if flag then None else Some (Foreign first last)))
+own_agreed true first last e = tt
+own_agreed false first last e = absurd cc
+
+own_fate : (flag : Bool) (tag : ℕ) → IsOwn (if flag then Executed tag else Unknown tag)
+own_fate true tag = tt
+own_fate false tag = tt
+
+own_fates : (kept : Record) (doubt n : ℕ) (cs : List Waiting) → AllByRecursion IsOwn (fates kept doubt n cs)
+own_fates kept doubt n [] = tt
+own_fates kept doubt n (c ∷ cs) =
+    (own_fate (nat_lt doubt n && is_marked kept n) c.tag, own_fates kept doubt (n + 1) cs)
+
+own_rest : (ts : List Tell) → AllByRecursion IsOwn ts → AllByRecursion IsOwn (drop 1 ts)
+own_rest [] are = tt
+own_rest (t ∷ ts) are = are.1
+
 -- `all` are the commands that were given up to this state, and `up` is the highest reported number
 pub record Good (stored : List Waiting) (g : Past) (ws : List ℕ) (up : ℕ) (all : List Waiting) (s : State)
     : Type 0 where
@@ -135,6 +174,7 @@ pub record Good (stored : List Waiting) (g : Past) (ws : List ℕ) (up : ℕ) (a
   pub start : ℕ
   pub reported : start ≤ up
   pub tells : AreTells stored g ws start s.standing.below s.tells
+  pub own : g.quiet ≡ true → IsOwnState g.said s
 
 pub good_highest : (stored : List Waiting) (g : Past) (ws : List ℕ) (up : ℕ) (all : List Waiting) (s : State)
     → Good stored g ws up all s → highest s ≡ length all
@@ -176,9 +216,10 @@ below_is false r n e = refl
 
 good_heard : (stored : List Waiting) (g : Past) (ws : List ℕ) (up : ℕ) (all : List Waiting) (s : State)
     (known : Standing) (kept : Record) (agree : Bool) → IsAmong kept g.said → IsFit (length stored) kept
-    → ((i : ℕ) → IsKnown kept i → IsAmong i ws) → Remembers g known → Good stored g ws up all s
-    → Good stored g ws up all (heard s known kept agree)
-good_heard stored g ws up all s known kept agree among fits knows remembers h =
+    → ((i : ℕ) → IsKnown kept i → IsAmong i ws) → Remembers g known
+    → (g.quiet ≡ true → (known.order ≡ None) × (agree ≡ true) × (s.standing.below ≤ kept.last))
+    → Good stored g ws up all s → Good stored g ws up all (heard s known kept agree)
+good_heard stored g ws up all s known kept agree among fits knows remembers own h =
     let below : ℕ = s.standing.below in
     let many : ℕ = length s.commands in
     let count : ℕ = passed below many kept in
@@ -236,17 +277,45 @@ good_heard stored g ws up all s known kept agree among fits knows remembers h =
       reported = h.reported;
       tells =
           subst (λ (n : ℕ). AreTells stored g ws h.start n (heard s known kept agree).tells) (sym then_below) tells;
+      own =
+          λ q.
+          let o = own q in
+          let less = o.2 in
+          let sum : below + count ≤ kept.last = omega (arith, less) in
+          record {
+            none = o.0;
+            known = inr among;
+            below = subst (λ (n : ℕ). n ≤ kept.last) (sym then_below) sum;
+            own =
+                own_both s.tells _ (h.own q).own
+                (own_both (option_to_list (restarted s.standing.board kept)) _
+                (own_restart (s.standing.board.boot == kept.boot) kept.boot)
+                (own_both (option_to_list (foreign agree known.board kept)) _
+                (own_agreed agree (min (reach known.board + 1) 4294967295) (reach kept) o.1)
+                (own_fates kept doubt (below + 1) cs)));
+          };
     }
 
 -- ---- each entry
 
 pub good_hears : (stored : List Waiting) (g : Past) (ws : List ℕ) (up : ℕ) (all : List Waiting) (s : State)
     (kept : Record) → IsAmong kept g.said → IsFit (length stored) kept → ((i : ℕ) → IsKnown kept i → IsAmong i ws)
+    → (g.quiet ≡ true → (agrees s.standing.below s.commands s.standing.board kept ≡ true)
+    × (s.standing.below ≤ kept.last))
     → Good stored g ws up all s → Good stored g ws up all (hears s kept)
-good_hears stored g ws up all s kept among fits knows h =
+good_hears stored g ws up all s kept among fits knows own h =
     let known : Standing = obeyed s.standing kept in
     good_heard stored g ws up all s known kept (agrees s.standing.below s.commands known.board kept) among fits knows
-    (obeyed_remembers g s.standing kept s.standing.order refl h.remembers) h
+    (obeyed_remembers g s.standing kept s.standing.order refl h.remembers)
+    (λ q.
+    let none = (h.own q).none in
+    let same : s.standing ≡ known = sym (ap (obeyed_order s.standing kept) none) in
+    let is = own q in (
+      subst (λ (k : Standing). k.order ≡ None) same none,
+      subst (λ (k : Standing). agrees s.standing.below s.commands k.board kept ≡ true) same is.0,
+      is.1,
+    ))
+    h
 
 pub good_gives : (stored : List Waiting) (g : Past) (ws : List ℕ) (up : ℕ) (all : List Waiting) (s : State)
     (c : Waiting) → IsPacket (length all + 1) c → length all + 1 < 2 ^ 32 → Good stored g ws up all s
@@ -268,6 +337,7 @@ good_gives stored g ws up all s c is few h =
       start = h.start;
       reported = h.reported;
       tells = h.tells;
+      own = λ q. let o = h.own q in record { none = o.none; known = o.known; below = o.below; own = o.own };
     }
 
 pub good_loses : (stored : List Waiting) (g : Past) (ws : List ℕ) (up : ℕ) (all : List Waiting) (s : State)
@@ -294,12 +364,21 @@ good_loses stored g ws up all s mark small among h =
       reported = h.reported;
       tells =
           tells_both stored g ws h.start s.standing.below s.standing.below s.tells (RecordLost mark ∷ []) h.tells refl;
+      own =
+          λ q.
+          let o = h.own q in
+          record {
+            none = o.none;
+            known = o.known;
+            below = o.below;
+            own = own_both s.tells (RecordLost mark ∷ []) o.own (tt, tt);
+          };
     }
 
 pub good_rebuilds : (stored : List Waiting) (g : Past) (ws : List ℕ) (up : ℕ) (all : List Waiting) (s : State)
-    (o : Rebuild) → IsRebuild o → IsAmong (orders.Rebuild o.mark o.boot o.last) g.directed
+    (o : Rebuild) → IsRebuild o → IsAmong (orders.Rebuild o.mark o.boot o.last) g.directed → (g.quiet ≡ true → ⊥)
     → Good stored g ws up all s → Good stored g ws up all (after_entry s (Rebuilds o))
-good_rebuilds stored g ws up all s o is among h =
+good_rebuilds stored g ws up all s o is among loud h =
     record {
       rest = h.rest;
       goes_on = h.goes_on;
@@ -319,6 +398,7 @@ good_rebuilds stored g ws up all s o is among h =
       start = h.start;
       reported = h.reported;
       tells = h.tells;
+      own = λ q. absurd (loud q);
     }
 
 -- the highest reported number after a report
@@ -370,6 +450,10 @@ good_told stored g ws up all s h =
       start = next.start;
       reported = next.reported;
       tells = next.tells;
+      own =
+          λ q.
+          let o = h.own q in
+          record { none = o.none; known = o.known; below = o.below; own = own_rest s.tells o.own };
     }
 
 -- ---- more is known
@@ -379,6 +463,7 @@ pub record IsMore (g h : Past) (ws vs : List ℕ) : Type 0 where
   pub said : (kept : Record) → IsAmong kept g.said → IsAmong kept h.said
   pub lost : (mark : ℕ) → IsAmong mark g.lost → IsAmong mark h.lost
   pub whole : (n : ℕ) → IsAmong n ws → IsAmong n vs
+  pub quiet : h.quiet ≡ true → g.quiet ≡ true
 
 passed_more : (g h : Past) (ws vs : List ℕ) (n : ℕ) → IsMore g h ws vs → IsPassed g.said n → IsPassed h.said n
 passed_more g h ws vs n more is =
@@ -406,6 +491,20 @@ order_more : (g h : Past) (order : Option Rebuild) → ((o : Order) → IsAmong 
 order_more g h None more is = tt
 order_more g h (Some o) more is = more (orders.Rebuild o.mark o.boot o.last) is
 
+own_more : (said news : List Record) (s : State) → ((kept : Record) → IsAmong kept said → IsAmong kept news)
+    → IsOwnState said s → IsOwnState news s
+own_more said news s more is =
+    record {
+      none = is.none;
+      known =
+          elim is.known as (λ _. (s.standing.board ≡ no_commands 0 0) ⊎ IsAmong s.standing.board news) [
+            | inl first ↦ inl first
+            | inr among ↦ inr (more s.standing.board among)
+          ];
+      below = is.below;
+      own = is.own;
+    }
+
 pub good_more : (stored : List Waiting) (g h : Past) (ws vs : List ℕ) (up high : ℕ) (all : List Waiting) (s : State)
     → IsMore g h ws vs → up ≤ high → Good stored g ws up all s → Good stored h vs high all s
 good_more stored g h ws vs up high all s more low is =
@@ -429,6 +528,7 @@ good_more stored g h ws vs up high all s more low is =
       start = is.start;
       reported = omega (arith, low, reported);
       tells = tells_more stored g h ws vs is.start s.standing.below s.tells more is.tells;
+      own = λ q. own_more g.said h.said s more.said (is.own (more.quiet q));
     }
 
 -- ---- all commands are stored
@@ -470,4 +570,5 @@ good_stored stored g ws up all rest s e h =
       tells =
           subst (λ (xs : List Waiting). AreTells xs g ws h.start s.standing.below s.tells) (sym e)
           (tells_stored stored rest g ws h.start s.standing.below s.tells h.tells);
+      own = h.own;
     }

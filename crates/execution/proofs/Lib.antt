@@ -5,6 +5,7 @@ pub mod Good
 pub mod Chain
 pub mod Keeping
 pub mod Renewal
+pub mod Own
 pub mod Link
 pub mod Events
 pub mod Reported

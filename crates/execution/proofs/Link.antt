@@ -24,6 +24,7 @@ use Rattle.execution.proofs.Lists.{get_append, get_low, contents, contents_at, c
 use Rattle.execution.proofs.Records.{HasRecords, records_more, Reports, IsFit, fit_more}
 use Rattle.execution.proofs.Held.{HasHeld, held_more}
 use Rattle.execution.proofs.Good.{Past, IsMore}
+use Rattle.execution.proofs.Own.{IsOwnBoard, IsNoRebuild, own_stored}
 
 -- ---- a pair that some deeds lead to
 
@@ -105,6 +106,7 @@ pub record OnLink (stored : List Waiting) (g : Past) (packets orders sent : List
   pub said : (kept : Record) → IsAmong kept g.said → IsFit (length stored) kept
   pub lost : (mark : ℕ) → IsAmong mark g.lost → (mark < 2 ^ 32) × IsReported sent mark
   pub directed : (order : Order) → IsAmong order g.directed → IsFitOrder (length stored) order
+  pub own : g.quiet ≡ true → IsOwnBoard stored g.said g.directed board
 
 pub given_low : (stored : List Waiting) (packet : List ℕ) → IsGiven stored packet → number_in packet ≤ length stored
 given_low stored packet is =
@@ -137,6 +139,7 @@ link_sends stored g packets orders sent board packet is h =
       said = h.said;
       lost = h.lost;
       directed = h.directed;
+      own = h.own;
     }
 
 -- ---- an order is made
@@ -146,7 +149,7 @@ with_order g order = record g { directed = order ∷ g.directed }
 
 pub more_orders : (g : Past) (order : Order) (ws : List ℕ) → IsMore g (with_order g order) ws ws
 more_orders g order ws =
-    record { directed = λ o h. inr h; said = λ r h. h; lost = λ m h. h; whole = λ n h. h }
+    record { directed = λ o h. inr h; said = λ r h. h; lost = λ m h. h; whole = λ n h. h; quiet = λ q. q }
 
 sent_more : (directed : List Order) (order : Order) (octets : List ℕ) → IsSentOrder directed octets
     → IsSentOrder (order ∷ directed) octets
@@ -162,10 +165,10 @@ sent_more directed order octets h =
     }
 
 pub link_directs : (stored : List Waiting) (g : Past) (packets orders sent : List (List ℕ)) (board : Board)
-    (order : Order) → IsFitOrder (length stored) order → (h : OnLink stored g packets orders sent board)
-    → carried.IsDirected (pair_of packets board stored g h.high) order
+    (order : Order) → IsFitOrder (length stored) order → (g.quiet ≡ true → IsNoRebuild order)
+    → (h : OnLink stored g packets orders sent board) → carried.IsDirected (pair_of packets board stored g h.high) order
     → OnLink stored (with_order g order) packets orders sent board
-link_directs stored g packets orders sent board order fits h is =
+link_directs stored g packets orders sent board order fits quiet h is =
     let up = fits.low in
     let low = h.low in
     let before = h.directed in
@@ -187,6 +190,21 @@ link_directs stored g packets orders sent board order fits h is =
             | inl same ↦ subst (IsFitOrder (length stored)) (sym same) fits
             | inr earlier ↦ before o earlier
           ];
+      own =
+          λ q.
+          let own = h.own q in
+          let none = own.none in
+          let now = quiet q in
+          record {
+            records = own.records;
+            histories = own.histories;
+            pairs = own.pairs;
+            none =
+                λ o among. elim among as (λ _. IsNoRebuild o) [
+                  | inl same ↦ subst IsNoRebuild (sym same) now
+                  | inr earlier ↦ none o earlier
+                ];
+          };
     }
 
 pub link_orders : (stored : List Waiting) (g : Past) (packets orders sent : List (List ℕ)) (board : Board)
@@ -205,6 +223,7 @@ link_orders stored g packets orders sent board octets is h =
       said = h.said;
       lost = h.lost;
       directed = h.directed;
+      own = h.own;
     }
 
 -- ---- commands are stored
@@ -341,4 +360,5 @@ link_stored stored more g packets orders sent board h =
           let is = directed order among in
           let last = is.low in
           record { range = is.range; low = omega (arith, up, last) };
+      own = λ q. own_stored stored more g.said g.directed board said (h.own q);
     }

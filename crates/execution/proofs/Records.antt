@@ -25,7 +25,7 @@ use Rattle.command_log.specs.Executor.{ExecutorState, at_stage, start, action_at
 use Rattle.command_log.specs.Executor.{is_at_rest, is_taken, is_obeyed, obey_any, status_at}
 use Rattle.command_log.specs.Board.{Board, Event, Offers, Orders, Acts, Restarts, BreaksOff, Spoils, board_step}
 use Rattle.command_log.specs.Board.{after_doing, after_break}
-use Rattle.command_log.proofs.Steps.{both, taken_parts}
+use Rattle.command_log.proofs.Steps.{HasNoOther, both, taken_parts}
 use Rattle.command_ledger.specs.Known.{reach}
 
 -- the record of the executor at each stage; the mark, if the record is lost
@@ -36,13 +36,25 @@ RecordsAt P M kept RepairsSecond = P kept
 RecordsAt P M kept WritesFirst = P kept
 RecordsAt P M kept WritesSecond = P kept
 RecordsAt P M kept Executes = P kept × (kept.begun ≡ true)
-RecordsAt P M kept Rests = P kept
+RecordsAt P M kept Rests = P kept × (kept.begun ≡ false)
 RecordsAt P M kept Ordered = P kept
+
+-- the places contain no other record than this one once it is written
+abbrev pub SameAt : (one two : Option Record) → Record → Stage → Type 0
+SameAt one two kept (Lost mark) = ⊤
+SameAt one two kept RepairsFirst = ⊤
+SameAt one two kept RepairsSecond = ⊤
+SameAt one two kept WritesFirst = ⊤
+SameAt one two kept WritesSecond = HasNoOther one kept
+SameAt one two kept Executes = HasNoOther one kept × HasNoOther two kept
+SameAt one two kept Rests = HasNoOther one kept × HasNoOther two kept
+SameAt one two kept Ordered = HasNoOther one kept × HasNoOther two kept
 
 pub record HasRecords (P : Record → Type 0) (M : ℕ → Type 0) (b : Board) : Type 0 where
   pub first : IfSome b.first P
   pub second : IfSome b.second P
   pub now : RecordsAt P M b.executor.kept b.executor.stage
+  pub same : SameAt b.first b.second b.executor.kept b.executor.stage
 
 -- what an event must keep
 abbrev pub KeepsOrder : (Record → Type 0) → ExecutorState → Result Order LogFault → Type 0
@@ -53,7 +65,8 @@ KeepsOrder P s (Ok (Rebuild mark boot last)) =
 
 abbrev pub Keeps : (Record → Type 0) → (ℕ → Type 0) → Board → Event → Type 0
 Keeps P M b (Offers octets) =
-    is_taken b.executor octets ≡ true → P b.executor.kept → P (begun b.executor.kept octets)
+    is_taken b.executor octets ≡ true → b.executor.kept.begun ≡ false → P b.executor.kept
+    → P (begun b.executor.kept octets)
 Keeps P M b (Orders octets) = KeepsOrder P b.executor (order_at octets)
 Keeps P M b Acts =
     (P b.executor.kept → P (after_start b.executor.kept))
@@ -63,7 +76,7 @@ Keeps P M b (BreaksOff mark) = M mark
 Keeps P M b (Spoils place) = ⊤
 
 at_rest : (P : Record → Type 0) (M : ℕ → Type 0) (kept : Record) (stage : Stage) → is_at_rest stage ≡ true
-    → RecordsAt P M kept stage → P kept
+    → RecordsAt P M kept stage → P kept × (kept.begun ≡ false)
 at_rest P M kept Rests e is = is
 at_rest P M kept Ordered e is = absurd cc
 at_rest P M kept (Lost mark) e is = absurd cc
@@ -82,21 +95,71 @@ started P M None None mark f s m = m
 written : (P : Record → Type 0) (M : ℕ → Type 0) (kept : Record) (flag : Bool) → kept.begun ≡ flag → P kept
     → RecordsAt P M (after_writes kept flag).kept (after_writes kept flag).stage
 written P M kept true e is = (is, e)
-written P M kept false e is = is
+written P M kept false e is = (is, e)
+
+written_same : (one : Option Record) (kept : Record) (flag : Bool) → HasNoOther one kept
+    → SameAt one (Some kept) (after_writes kept flag).kept (after_writes kept flag).stage
+written_same one kept true only = (only, refl)
+written_same one kept false only = (only, refl)
+
+started_same : (one two : Option Record) (mark : ℕ)
+    → SameAt one two (start one two mark).kept (start one two mark).stage
+started_same (Some first) two mark = tt
+started_same None (Some second) mark = tt
+started_same None None mark = tt
+
+ordered_same : (one two : Option Record) (kept : Record) (stage : Stage) → is_at_rest stage ≡ true
+    → SameAt one two kept stage → SameAt one two kept Ordered
+ordered_same one two kept Rests e is = is
+ordered_same one two kept Ordered e is = absurd cc
+ordered_same one two kept (Lost mark) e is = absurd cc
+ordered_same one two kept RepairsFirst e is = absurd cc
+ordered_same one two kept RepairsSecond e is = absurd cc
+ordered_same one two kept WritesFirst e is = absurd cc
+ordered_same one two kept WritesSecond e is = absurd cc
+ordered_same one two kept Executes e is = absurd cc
+
+obeyed_same : (one two : Option Record) (s : ExecutorState) (read : Result Order LogFault)
+    → SameAt one two s.kept s.stage → SameAt one two (obey_any s read).kept (obey_any s read).stage
+obeyed_same one two s (Err e) is = is
+obeyed_same one two s (Ok (orders.Restart boot)) is =
+    cond_both (is_obeyed s (orders.Restart boot)) (at_stage s.kept Ordered) s
+    (λ (after : ExecutorState). SameAt one two after.kept after.stage)
+    (λ t. ordered_same one two s.kept s.stage (both (is_at_rest s.stage) (nat_eq boot s.kept.boot) t).0 is) (λ f. is)
+obeyed_same one two s (Ok (Rebuild mark boot last)) is =
+    cond_both (is_obeyed s (Rebuild mark boot last)) (at_stage (no_commands boot last) WritesFirst) s
+    (λ (after : ExecutorState). SameAt one two after.kept after.stage) (λ t. tt) (λ f. is)
+
+-- a copy is spoiled
+spoiled_same : (one two : Option Record) (kept : Record) (stage : Stage) → SameAt one two kept stage
+    → SameAt None two kept stage × SameAt one None kept stage
+spoiled_same one two kept (Lost mark) is = (tt, tt)
+spoiled_same one two kept RepairsFirst is = (tt, tt)
+spoiled_same one two kept RepairsSecond is = (tt, tt)
+spoiled_same one two kept WritesFirst is = (tt, tt)
+spoiled_same one two kept WritesSecond is = (tt, is)
+spoiled_same one two kept Executes is = ((tt, is.1), (is.0, tt))
+spoiled_same one two kept Rests is = ((tt, is.1), (is.0, tt))
+spoiled_same one two kept Ordered is = ((tt, is.1), (is.0, tt))
 
 done : (P : Record → Type 0) (M : ℕ → Type 0) (b : Board) (kept : Record) (stage : Stage)
     → (P kept → P (after_start kept)) → (kept.begun ≡ true → P kept → P (passed kept 1)) → IfSome b.first P
-    → IfSome b.second P → RecordsAt P M kept stage
+    → IfSome b.second P → RecordsAt P M kept stage → SameAt b.first b.second kept stage
     → HasRecords P M (record (after_doing b (action_at kept stage)) { executor = after_action kept stage })
-done P M b kept (Lost mark) s x f g is = record { first = f; second = g; now = is }
-done P M b kept RepairsFirst s x f g is = record { first = is; second = g; now = s is }
-done P M b kept RepairsSecond s x f g is = record { first = f; second = is; now = s is }
-done P M b kept WritesFirst s x f g is = record { first = is; second = g; now = is }
-done P M b kept WritesSecond s x f g is =
-    record { first = f; second = is; now = written P M kept kept.begun refl is }
-done P M b kept Executes s x f g is = record { first = f; second = g; now = x is.1 is.0 }
-done P M b kept Rests s x f g is = record { first = f; second = g; now = is }
-done P M b kept Ordered s x f g is = record { first = f; second = g; now = is }
+done P M b kept (Lost mark) s x f g is same = record { first = f; second = g; now = is; same = tt }
+done P M b kept RepairsFirst s x f g is same = record { first = is; second = g; now = s is; same = tt }
+done P M b kept RepairsSecond s x f g is same = record { first = f; second = is; now = s is; same = tt }
+done P M b kept WritesFirst s x f g is same = record { first = is; second = g; now = is; same = refl }
+done P M b kept WritesSecond s x f g is same =
+    record {
+      first = f;
+      second = is;
+      now = written P M kept kept.begun refl is;
+      same = written_same b.first kept kept.begun same;
+    }
+done P M b kept Executes s x f g is same = record { first = f; second = g; now = x is.1 is.0; same = tt }
+done P M b kept Rests s x f g is same = record { first = f; second = g; now = is; same = same }
+done P M b kept Ordered s x f g is same = record { first = f; second = g; now = is; same = same }
 
 broken : (P : Record → Type 0) (b : Board) (kept : Record) (stage : Stage) → IfSome b.first P → IfSome b.second P
     → IfSome (after_break b (action_at kept stage)).first P × IfSome (after_break b (action_at kept stage)).second P
@@ -116,7 +179,7 @@ obeyed P M s (Err e) keeps is = is
 obeyed P M s (Ok (orders.Restart boot)) keeps is =
     cond_both (is_obeyed s (orders.Restart boot)) (at_stage s.kept Ordered) s
     (λ (after : ExecutorState). RecordsAt P M after.kept after.stage)
-    (λ t. at_rest P M s.kept s.stage (both (is_at_rest s.stage) (nat_eq boot s.kept.boot) t).0 is) (λ f. is)
+    (λ t. (at_rest P M s.kept s.stage (both (is_at_rest s.stage) (nat_eq boot s.kept.boot) t).0 is).0) (λ f. is)
 obeyed P M s (Ok (Rebuild mark boot last)) keeps is =
     cond_both (is_obeyed s (Rebuild mark boot last)) (at_stage (no_commands boot last) WritesFirst) s
     (λ (after : ExecutorState). RecordsAt P M after.kept after.stage) (λ t. keeps t) (λ f. is)
@@ -130,15 +193,30 @@ records_step P M b (Offers octets) keeps h =
       now =
           cond_both (is_taken b.executor octets) (at_stage (begun b.executor.kept octets) WritesFirst) b.executor
           (λ (after : ExecutorState). RecordsAt P M after.kept after.stage)
-          (λ t. keeps t (at_rest P M b.executor.kept b.executor.stage (taken_parts b.executor octets t).1 h.now))
+          (λ t.
+          let before = at_rest P M b.executor.kept b.executor.stage (taken_parts b.executor octets t).1 h.now in
+          keeps t before.1 before.0)
           (λ f. h.now);
+      same =
+          cond_both (is_taken b.executor octets) (at_stage (begun b.executor.kept octets) WritesFirst) b.executor
+          (λ (after : ExecutorState). SameAt b.first b.second after.kept after.stage) (λ t. tt) (λ f. h.same);
     }
 records_step P M b (Orders octets) keeps h =
-    record { first = h.first; second = h.second; now = obeyed P M b.executor (order_at octets) keeps h.now }
+    record {
+      first = h.first;
+      second = h.second;
+      now = obeyed P M b.executor (order_at octets) keeps h.now;
+      same = obeyed_same b.first b.second b.executor (order_at octets) h.same;
+    }
 records_step P M b Acts keeps h =
-    done P M b b.executor.kept b.executor.stage keeps.0 keeps.1 h.first h.second h.now
+    done P M b b.executor.kept b.executor.stage keeps.0 keeps.1 h.first h.second h.now h.same
 records_step P M b (Restarts mark) keeps h =
-    record { first = h.first; second = h.second; now = started P M b.first b.second mark h.first h.second keeps }
+    record {
+      first = h.first;
+      second = h.second;
+      now = started P M b.first b.second mark h.first h.second keeps;
+      same = started_same b.first b.second mark;
+    }
 records_step P M b (BreaksOff mark) keeps h =
     let after = after_break b (action_at b.executor.kept b.executor.stage) in
     let both_so = broken P b b.executor.kept b.executor.stage h.first h.second in
@@ -146,9 +224,22 @@ records_step P M b (BreaksOff mark) keeps h =
       first = both_so.0;
       second = both_so.1;
       now = started P M after.first after.second mark both_so.0 both_so.1 keeps;
+      same = started_same after.first after.second mark;
     }
-records_step P M b (Spoils First) keeps h = record { first = tt; second = h.second; now = h.now }
-records_step P M b (Spoils Second) keeps h = record { first = h.first; second = tt; now = h.now }
+records_step P M b (Spoils First) keeps h =
+    record {
+      first = tt;
+      second = h.second;
+      now = h.now;
+      same = (spoiled_same b.first b.second b.executor.kept b.executor.stage h.same).0;
+    }
+records_step P M b (Spoils Second) keeps h =
+    record {
+      first = h.first;
+      second = tt;
+      now = h.now;
+      same = (spoiled_same b.first b.second b.executor.kept b.executor.stage h.same).1;
+    }
 
 if_more : (P Q : Record → Type 0) → ((r : Record) → P r → Q r) → (place : Option Record) → IfSome place P
     → IfSome place Q
@@ -163,7 +254,7 @@ at_more P Q M f kept RepairsSecond is = f kept is
 at_more P Q M f kept WritesFirst is = f kept is
 at_more P Q M f kept WritesSecond is = f kept is
 at_more P Q M f kept Executes is = (f kept is.0, is.1)
-at_more P Q M f kept Rests is = f kept is
+at_more P Q M f kept Rests is = (f kept is.0, is.1)
 at_more P Q M f kept Ordered is = f kept is
 
 pub records_more : (P Q : Record → Type 0) (M : ℕ → Type 0) (b : Board) → ((r : Record) → P r → Q r)
@@ -173,6 +264,7 @@ records_more P Q M b f h =
       first = if_more P Q f b.first h.first;
       second = if_more P Q f b.second h.second;
       now = at_more P Q M f b.executor.kept b.executor.stage h.now;
+      same = h.same;
     }
 
 -- a status reports such a record, or such a mark
@@ -190,7 +282,7 @@ reports P M kept RepairsSecond is = tt
 reports P M kept WritesFirst is = tt
 reports P M kept WritesSecond is = tt
 reports P M kept Executes is = is.0
-reports P M kept Rests is = is
+reports P M kept Rests is = is.0
 reports P M kept Ordered is = is
 
 -- ---- a record whose fields fit, and which reaches no number above the bound
@@ -203,10 +295,10 @@ pub record IsFit (bound : ℕ) (kept : Record) : Type 0 where
 pub fit_more : (a b : ℕ) → a ≤ b → (kept : Record) → IsFit a kept → IsFit b kept
 fit_more a b low kept is = let up = is.reach in record { range = is.range; reach = omega arith; room = is.room }
 
-reach_begun : (kept : Record) → kept.begun ≡ true → reach kept ≡ min (kept.last + 1) 4294967295
+pub reach_begun : (kept : Record) → kept.begun ≡ true → reach kept ≡ min (kept.last + 1) 4294967295
 reach_begun kept e = rw e refl
 
-reach_not_begun : (kept : Record) → kept.begun ≡ false → reach kept ≡ kept.last
+pub reach_not_begun : (kept : Record) → kept.begun ≡ false → reach kept ≡ kept.last
 reach_not_begun kept e = rw e refl
 
 passed_range : (kept : Record) (bit : ℕ) → bit < 2 → IsInRange kept → IsInRange (passed kept bit)
@@ -225,7 +317,7 @@ fit_executed bound kept e is =
       room = λ t. absurd (cc t);
     }
 
-fit_counted : (bound : ℕ) (kept : Record) → kept.begun ≡ false → IsFit bound kept → IsFit bound (counted kept)
+pub fit_counted : (bound : ℕ) (kept : Record) → kept.begun ≡ false → IsFit bound kept → IsFit bound (counted kept)
 fit_counted bound kept e is =
     let r = is.range in
     let up = is.reach in
@@ -237,7 +329,7 @@ fit_counted bound kept e is =
       room = λ t. absurd (cc (e, t));
     }
 
-started_fit : (bound : ℕ) (kept : Record) (flag : Bool) → kept.begun ≡ flag → IsFit bound kept
+pub started_fit : (bound : ℕ) (kept : Record) (flag : Bool) → kept.begun ≡ flag → IsFit bound kept
     → IsFit bound (counted (passed_if_begun kept flag))
 started_fit bound kept false e is = fit_counted bound kept e is
 started_fit bound kept true e is =

@@ -1,2 +1,3 @@
 pub mod System
 pub mod Execution
+pub mod Own

@@ -1,6 +1,7 @@
 // What holds of a ground and a board over any link.
 
 ghost use Rattle.execution.specs.Execution.{EachSystemCarriesOut};
+ghost use Rattle.execution.specs.Own.{EachCommandIsOwn};
 
 /// The board executes commands that the ground gave, in the order of their numbers and each at most once,
 /// whatever the link does to packets, orders and statuses, and whenever the board restarts or the ground
@@ -9,4 +10,10 @@ ghost use Rattle.execution.specs.Execution.{EachSystemCarriesOut};
 /// before those with lower numbers. This holds under the assumptions `AreOwed`.
 pub fn law_of_execution()
     ensures { EachSystemCarriesOut }
+{}
+
+/// Under the same assumptions, the ground never reports that commands on board are not its own. This requires
+/// that no order to bring a record is made, and that the boot count does not begin at 0 again.
+pub fn law_of_own_commands()
+    ensures { EachCommandIsOwn }
 {}

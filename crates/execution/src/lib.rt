@@ -4,4 +4,4 @@
 
 mod laws;
 
-pub use laws::law_of_execution;
+pub use laws::{law_of_execution, law_of_own_commands};
