@@ -1,5 +1,5 @@
 -- An invariant of a ground and a board, which each deed preserves.
-use Rattle.std.proofs.Common.{◌≡◌, ℕ, ◌-◌, ◌<◌, inl, List, [], ◌∷◌, ◌++◌, length}
+use Rattle.std.proofs.Common.{◌≡◌, ℕ, ◌-◌, ◌<◌, ◌≤◌, inl, List, [], ◌∷◌, ◌++◌, length}
 use Rattle.std.proofs.Common.{refl, sym, ◌∙◌, ap, subst, arith, drop, take, length-append, append-nil, IfSome}
 use Rattle.std.proofs.Common.{Some, None, Option, Bool, true, Result, Ok, Err}
 use Rattle.std.specs.Prelude.{◌^◌}
@@ -529,8 +529,15 @@ said_so quiet s h octets kept waits n among e known =
     let is = shown quiet s h octets (Says kept, waits) e among in
     (is.0 kept refl).2 n known
 
+-- if no report is due, all up to this number were made
+all_reported : (stored : List Waiting) (g : Past) (ws : List ℕ) (up n m : ℕ) (ts : List Tell) → ts ≡ [] → n ≤ up
+    → AreTells stored g ws n m ts → m ≤ up
+all_reported stored g ws up n m [] e low are = omega (arith, low, are)
+all_reported stored g ws up n m (t ∷ ts) e low are = absurd cc
+
 are_carried_out : (quiet : Bool) (s : System) → Holds quiet s → IsCarriedOut s
 are_carried_out quiet s h =
+    let k = ledger_good h.stored h.past s.board.whole h.up s.ledger s.store s.given h.ledger in
     let so = reached_so (pair_of s.packets s.board h.stored h.past h.link.high) h.link.reached in
     record {
       once = so.once;
@@ -543,7 +550,11 @@ are_carried_out quiet s h =
       told = (
         h.up,
         all_true s h.stored (all_in h.ledger.new) h.past.said h.up s.told h.ledger.given_is h.told,
+        λ none.
+            all_reported h.stored h.past s.board.whole h.up k.start s.ledger.state.standing.below
+            s.ledger.state.tells none k.reported k.tells,
       );
+      held = k.commands;
     }
 
 pub each_system : EachSystemCarriesOut

@@ -1,6 +1,6 @@
 -- What is executed, and what is reported of it, over any link.
 use Rattle.std.specs.Prelude.{◌≡◌, ⊤, ℕ, ◌+◌, ◌-◌, ◌<◌, ◌≤◌, ◌^◌, max, List, [], ◌∷◌, ◌++◌, true}
-use Rattle.std.specs.Prelude.{Some, Ok, slice_get}
+use Rattle.std.specs.Prelude.{Some, Ok, slice_get, drop}
 use Rattle.std.specs.List.{AllByRecursion}
 use Rattle.command_log.specs.declared.packets.Order.{Order}
 use Rattle.command_log.specs.declared.record.Record.{Record}
@@ -108,8 +108,11 @@ pub record IsCarriedOut (s : System) : Type 0 where
       → IsAmong n s.board.whole
   pub whole : (n : ℕ) → IsAmong n s.board.whole
       → (packet : List ℕ) × IsAmong packet s.board.packets × (number_in packet ≡ n)
-  -- each report is true
+  -- Each report is true. If no report is due, each command up to `below` was reported, and the
+  -- ledger has all others.
   pub told : (highest : ℕ) × AreTrue s highest s.told
+      × (s.ledger.state.tells ≡ [] → s.ledger.state.standing.below ≤ highest)
+  pub held : s.ledger.state.commands ≡ drop s.ledger.state.standing.below s.given
 
 abbrev pub EachSystemCarriesOut : Type 0
 EachSystemCarriesOut =
