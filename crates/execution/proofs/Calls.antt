@@ -37,17 +37,22 @@ use Rattle.command_ledger.proofs.Commands.{follows_next, fits_of}
 use Rattle.execution.specs.Execution.{IsGiven}
 use Rattle.execution.proofs.Lists.{IsPacket, packet_at, get_drop, get_front}
 use Rattle.execution.proofs.Records.{IsFit}
-use Rattle.execution.proofs.Good.{Past, Good, IsMore, good_highest, good_hears, good_gives, good_loses}
-use Rattle.execution.proofs.Good.{good_told, up_after, up_more}
 use Rattle.execution.proofs.Chain.{chain_more}
 use Rattle.execution.proofs.Keeping.{OnGround, ledger_good, on_append}
+use Rattle.execution.proofs.Tells.{Past}
+use Rattle.execution.proofs.Good.{Good, IsMore, good_highest, good_hears, good_gives, good_loses}
+use Rattle.execution.proofs.Tells.{up_after, up_long, AreTells, same_start, tail_pushed}
+use Rattle.execution.proofs.Good.{good_told}
+use Rattle.execution.proofs.Chain.{chain_reported}
+use Rattle.command_ledger.specs.State.{new_state}
+use Rattle.command_ledger.specs.Kept.{after_entries}
 use Rattle.execution.proofs.Own.{IsOwnBoard, own_agrees}
 
 -- more is known
-pub ground_more : (stored : List Waiting) (g h : Past) (ws vs : List ℕ) (up high : ℕ) (l : LedgerState)
-    (store : List ℕ) (given : List Waiting) → IsMore g h ws vs → up ≤ high → OnGround stored g ws up l store given
-    → OnGround stored h vs high l store given
-ground_more stored g h ws vs up high l store given more low is =
+pub ground_more : (stored : List Waiting) (g h : Past) (ws vs : List ℕ) (up : List Bool) (l : LedgerState)
+    (store : List ℕ) (given : List Waiting) → IsMore g h ws vs → OnGround stored g ws up l store given
+    → OnGround stored h vs up l store given
+ground_more stored g h ws vs up l store given more is =
     record {
       old = is.old;
       new = is.new;
@@ -55,11 +60,11 @@ ground_more stored g h ws vs up high l store given more low is =
       store_is = is.store_is;
       follow = is.follow;
       unstored = is.unstored;
-      good =
-          chain_more stored g h ws vs up high stored _ is.new more low is.good;
+      good = chain_more stored g h ws vs up stored _ is.new more is.good;
       same = is.same;
       safe = is.safe;
       given_is = is.given_is;
+      notes = is.notes;
     }
 
 -- ---- a command
@@ -89,7 +94,7 @@ packet_of_follows s n tag on_map packet high small short e =
     let number = eqb-true (number_in packet) (highest s + 1) three.1 in
     record { command = three.0; number = omega (arith, number, high); short = short; tag = small }
 
-pub on_command : (stored : List Waiting) (g : Past) (ws : List ℕ) (up : ℕ) (l : LedgerState) (store : List ℕ)
+pub on_command : (stored : List Waiting) (g : Past) (ws : List ℕ) (up : List Bool) (l : LedgerState) (store : List ℕ)
     (given : List Waiting) (tag on_map apid count : ℕ) (content : List ℕ) → tag < 2 ^ 64
     → give_fault l on_map apid count (length content) ≡ None → OnGround stored g ws up l store given
     → let packet = command_octets (next_command l apid count content) in
@@ -127,21 +132,21 @@ same_status octets status waits read range is e =
     (status_in octets, slice_index octets 22) read e in
     sym (ap (λ (r : Status × ℕ). r.0) same) ∙ found
 
-on_some : (stored : List Waiting) (g : Past) (ws : List ℕ) (up : ℕ) (l : LedgerState) (store : List ℕ)
+on_some : (stored : List Waiting) (g : Past) (ws : List ℕ) (up : List Bool) (l : LedgerState) (store : List ℕ)
     (given : List Waiting) (e : Entry) (flag : Bool) → OnGround stored g ws up l store given
     → (flag ≡ true → OnGround stored g ws up (appended l e) store given)
     → OnGround stored g ws up (appended_if l (if flag then Some e else None)) store given
 on_some stored g ws up l store given e true h more = more refl
 on_some stored g ws up l store given e false h more = h
 
-on_others : (stored : List Waiting) (g : Past) (ws : List ℕ) (up : ℕ) (l : LedgerState) (store : List ℕ)
+on_others : (stored : List Waiting) (g : Past) (ws : List ℕ) (up : List Bool) (l : LedgerState) (store : List ℕ)
     (given : List Waiting) (e : Entry) (flag : Bool) → OnGround stored g ws up l store given
     → OnGround stored g ws up (appended l e) store given
     → OnGround stored g ws up (appended_if l (if flag then None else Some e)) store given
 on_others stored g ws up l store given e true h more = h
 on_others stored g ws up l store given e false h more = more
 
-pub on_status : (stored : List Waiting) (g : Past) (ws : List ℕ) (up : ℕ) (l : LedgerState) (store : List ℕ)
+pub on_status : (stored : List Waiting) (g : Past) (ws : List ℕ) (up : List Bool) (l : LedgerState) (store : List ℕ)
     (given : List Waiting) (status : Status)
     → ((kept : Record) → status ≡ Says kept → IsAmong kept g.said × IsFit (length stored) kept
     × ((n : ℕ) → IsKnown kept n → IsAmong n ws))
@@ -217,7 +222,8 @@ made_by g true (Some o) None found e range among = absurd cc
 made_by g true (Some o) (Some mark) found e range among =
     made_if g (o.mark == mark) o found e range among
 
-pub order_is : (stored : List Waiting) (g : Past) (ws : List ℕ) (up : ℕ) (l : LedgerState) (given : List Waiting)
+pub order_is : (stored : List Waiting) (g : Past) (ws : List ℕ) (up : List Bool) (l : LedgerState)
+    (given : List Waiting)
     (found : Order) → order_of l ≡ Some found → Good stored g ws up given l.state
     → IsAmong found g.directed × IsOrderInRange found
 order_is stored g ws up l given found e k =
@@ -234,7 +240,7 @@ found_by false true low found c e = absurd cc
 found_by false false true found c e = absurd cc
 found_by false false false found c e = (refl, refl, e)
 
-pub packet_is : (stored : List Waiting) (g : Past) (ws : List ℕ) (up : ℕ) (l : LedgerState) (store : List ℕ)
+pub packet_is : (stored : List Waiting) (g : Past) (ws : List ℕ) (up : List Bool) (l : LedgerState) (store : List ℕ)
     (given : List Waiting) (number : ℕ) (c : Waiting) → packet_of l number ≡ Some c
     → OnGround stored g ws up l store given → IsGiven stored c.packet
 packet_is stored g ws up l store given number c e h =
@@ -283,18 +289,48 @@ pub tells_first : (l : LedgerState) (tell : Tell) → next_of l ≡ views.Says t
 tells_first l tell e =
     first_of_tells l.state.tells tell (says_by l.due l.unstored (slice_get l.state.tells 0) tell e)
 
-pub on_told : (stored : List Waiting) (g : Past) (ws : List ℕ) (up : ℕ) (l : LedgerState) (store : List ℕ)
-    (given : List Waiting) (noted : Bool) (h : OnGround stored g ws up l store given)
+due_by : (due : Bool) (unstored : List ℕ) (first : Option Tell) (tell : Tell)
+    → (if due then Stores unstored else told_or_stored unstored first) ≡ views.Says tell → due ≡ false
+due_by true unstored first tell e = absurd cc
+due_by false unstored first tell e = refl
+
+pub on_told : (stored : List Waiting) (g : Past) (ws : List ℕ) (up : List Bool) (l : LedgerState) (store : List ℕ)
+    (given : List Waiting) (noted : Bool) (tell : Tell) → next_of l ≡ views.Says tell
+    → (h : OnGround stored g ws up l store given)
     → let k = ledger_good stored g ws up l store given h in
     OnGround stored g ws (up_after up k.start l.state.tells) (if noted then appended l Tells else l) store given
-on_told stored g ws up l store given noted h =
+on_told stored g ws up l store given noted tell e h =
     let k = ledger_good stored g ws up l store given h in
-    let high : ℕ = up_after up k.start l.state.tells in
+    let tail : List Tell = l.state.tells in
+    let high : List Bool = up_after up k.start tail in
+    let s : State = after_entries new_state h.old in
+    let t : State = after_entries s h.new in
+    let notes = h.notes (due_by l.due l.unstored (slice_get l.state.tells 0) tell e) in
+    let tells : t.tells ≡ tail = sym (ap (λ (x : State). x.tells) h.same.is) in
+    let below : l.state.standing.below ≡ t.standing.below = ap (λ (x : State). x.standing.below) h.same.is in
+    let are : AreTells stored g ws up k.start t.standing.below tail =
+    subst (λ (m : ℕ). AreTells stored g ws up k.start m tail) below k.tells in
+    let made = chain_reported stored g ws up stored s h.new k.start tail notes k.reported tells are h.good in
     let all : OnGround stored g ws high l store given =
-    ground_more stored g g ws ws up high l store given
-    (record { directed = λ o i. i; said = λ r i. i; lost = λ m i. i; whole = λ n i. i; quiet = λ q. q })
-    (up_more up k.start l.state.tells) h in
+    record {
+      old = h.old;
+      new = h.new;
+      read = h.read;
+      store_is = h.store_is;
+      follow = h.follow;
+      unstored = h.unstored;
+      good = made.good;
+      same = h.same;
+      safe = h.safe;
+      given_is = h.given_is;
+      notes = h.notes;
+    } in
+    let now = ledger_good stored g ws high l store given all in
+    let same : now.start ≡ k.start =
+    same_start stored g ws high now.start k.start l.state.standing.below tail now.tells
+    (tail_pushed stored g ws up k.start l.state.standing.below tail k.reported k.tells) in
+    let long = up_long up k.start tail k.reported in
     cond_both noted (appended l Tells) l (λ (m : LedgerState). OnGround stored g ws high m store given)
-    (λ t. on_append stored g ws high l store given given Tells refl tt (sym (append-nil given))
-    (good_told stored g ws up given l.state k) all)
+    (λ f. on_append stored g ws high l store given given Tells refl tt (sym (append-nil given))
+    (good_told stored g ws high given l.state now (omega (arith, same, long))) all)
     (λ f. all)

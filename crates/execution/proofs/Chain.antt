@@ -1,7 +1,9 @@
 -- The entries of a store, and those that must still be appended.
 use Rattle.std.proofs.Common.{◌≡◌, ℕ, zero, suc, ◌+◌, ◌-◌, ◌<◌, ◌≤◌, inl, inr, List, [], ◌∷◌, ◌++◌, length}
 use Rattle.std.proofs.Common.{refl, sym, ◌∙◌, ap, subst, arith, take, length-append, append_assoc, append-nil}
-use Rattle.std.proofs.Common.{true, lt-ltb, le-leb, eq-eqb}
+use Rattle.std.proofs.Common.{true, lt-ltb, le-leb, eq-eqb, Bool, drop}
+use Rattle.std.specs.List.{AllByRecursion}
+use Rattle.command_ledger.specs.declared.state.Tell.{Tell}
 use Rattle.std.proofs.lemmas.Bool.{cases_lt}
 use Rattle.std.proofs.lemmas.List.{take-append-le}
 use Rattle.std.proofs.Math.Seq.{take-append-add}
@@ -15,7 +17,8 @@ use Rattle.command_ledger.specs.Entries.{spelling}
 use Rattle.command_ledger.specs.Ledger.{commands_octets}
 use Rattle.command_ledger.specs.Kept.{AreEntries, IsCutOff, after_entries, store_octets}
 use Rattle.execution.proofs.Lists.{IsPacket, ArePackets}
-use Rattle.execution.proofs.Good.{Past, Good, IsMore, good_more}
+use Rattle.execution.proofs.Tells.{Past, AreTells, up_after}
+use Rattle.execution.proofs.Good.{Good, IsMore, good_more, good_reported}
 
 -- the commands that entries give
 abbrev pub commands_in : Entry → List Waiting
@@ -108,12 +111,12 @@ cut_at n s (e ∷ es) are =
 
 -- ---- the state after each of them is good
 
-abbrev pub AreGood : List Waiting → Past → List ℕ → ℕ → List Waiting → State → List Entry → Type 0
+abbrev pub AreGood : List Waiting → Past → List ℕ → List Bool → List Waiting → State → List Entry → Type 0
 AreGood stored g ws up all s [] = Good stored g ws up all s
 AreGood stored g ws up all s (e ∷ es) =
     Good stored g ws up all s × AreGood stored g ws up (all ++ commands_in e) (after_entry s e) es
 
-pub good_front : (stored : List Waiting) (g : Past) (ws : List ℕ) (up : ℕ) (all : List Waiting) (s : State)
+pub good_front : (stored : List Waiting) (g : Past) (ws : List ℕ) (up : List Bool) (all : List Waiting) (s : State)
     (es fs : List Entry) → AreGood stored g ws up all s (es ++ fs)
     → Good stored g ws up (all ++ all_in es) (after_entries s es)
 good_front stored g ws up all s [] [] are =
@@ -125,14 +128,14 @@ good_front stored g ws up all s (e ∷ es) fs are =
     (append_assoc all (commands_in e) (all_in es))
     (good_front stored g ws up (all ++ commands_in e) (after_entry s e) es fs are.1)
 
-pub good_last : (stored : List Waiting) (g : Past) (ws : List ℕ) (up : ℕ) (all : List Waiting) (s : State)
+pub good_last : (stored : List Waiting) (g : Past) (ws : List ℕ) (up : List Bool) (all : List Waiting) (s : State)
     (es : List Entry) → AreGood stored g ws up all s es
     → Good stored g ws up (all ++ all_in es) (after_entries s es)
 good_last stored g ws up all s es are =
     good_front stored g ws up all s es []
     (subst (AreGood stored g ws up all s) (sym (append-nil es)) are)
 
-pub good_push : (stored : List Waiting) (g : Past) (ws : List ℕ) (up : ℕ) (all : List Waiting) (s : State)
+pub good_push : (stored : List Waiting) (g : Past) (ws : List ℕ) (up : List Bool) (all : List Waiting) (s : State)
     (es : List Entry) (e : Entry) → AreGood stored g ws up all s es
     → Good stored g ws up ((all ++ all_in es) ++ commands_in e) (after_entry (after_entries s es) e)
     → AreGood stored g ws up all s (es ++ e ∷ [])
@@ -147,14 +150,79 @@ good_push stored g ws up all s (x ∷ es) e are last = (
       (after_entry (after_entries (after_entry s x) es) e)) (sym (append_assoc all (commands_in x) (all_in es))) last),
 )
 
-pub chain_more : (stored : List Waiting) (g h : Past) (ws vs : List ℕ) (up high : ℕ) (all : List Waiting) (s : State)
-    (es : List Entry) → IsMore g h ws vs → up ≤ high → AreGood stored g ws up all s es
-    → AreGood stored h vs high all s es
-chain_more stored g h ws vs up high all s [] more low are = good_more stored g h ws vs up high all s more low are
-chain_more stored g h ws vs up high all s (e ∷ es) more low are = (
-  good_more stored g h ws vs up high all s more low are.0,
-  chain_more stored g h ws vs up high (all ++ commands_in e) (after_entry s e) es more low are.1,
+pub chain_more : (stored : List Waiting) (g h : Past) (ws vs : List ℕ) (up : List Bool) (all : List Waiting)
+    (s : State) (es : List Entry) → IsMore g h ws vs → AreGood stored g ws up all s es
+    → AreGood stored h vs up all s es
+chain_more stored g h ws vs up all s [] more are = good_more stored g h ws vs up all s more are
+chain_more stored g h ws vs up all s (e ∷ es) more are = (
+  good_more stored g h ws vs up all s more are.0,
+  chain_more stored g h ws vs up (all ++ commands_in e) (after_entry s e) es more are.1,
 )
+
+-- ---- a report is made, while only notes of reports are to be stored
+
+abbrev pub IsNote : Entry → Type 0
+IsNote e = e ≡ Tells
+
+pub record Reported (stored : List Waiting) (g : Past) (ws : List ℕ) (up : List Bool) (all : List Waiting) (s : State)
+    (es : List Entry) (tail : List Tell) : Type 0 where
+  pub front : List Tell
+  pub split : s.tells ≡ front ++ tail
+  pub good : AreGood stored g ws up all s es
+
+add_front : (ts front tail : List Tell) → drop 1 ts ≡ front ++ tail → (more : List Tell) × (ts ≡ more ++ tail)
+add_front [] [] tail e = ([], e)
+add_front [] (x ∷ front) tail e = absurd cc
+add_front (t ∷ ts) front tail e = (t ∷ front, ap (λ (xs : List Tell). t ∷ xs) e)
+
+-- the state before a note
+note_first : (stored : List Waiting) (g : Past) (ws : List ℕ) (up : List Bool) (all : List Waiting) (s : State)
+    (es : List Entry) (k : ℕ) (tail : List Tell) → k ≤ length up
+    → AreTells stored g ws up k s.standing.below tail → Good stored g ws up all s
+    → Reported stored g ws (up_after up k tail) (all ++ []) (after_entry s Tells) es tail
+    → Reported stored g ws (up_after up k tail) all s (Tells ∷ es) tail
+note_first stored g ws up all s es k tail low are good more =
+    let whole = add_front s.tells more.front tail more.split in
+    record {
+      front = whole.0;
+      split = whole.1;
+      good = (good_reported stored g ws up all s k whole.0 tail whole.1 low are good, more.good);
+    }
+
+same_below : (s : State) (es : List Entry) → AllByRecursion IsNote es
+    → (after_entries s es).standing.below ≡ s.standing.below
+same_below s [] notes = refl
+same_below s (e ∷ es) notes =
+    same_below (after_entry s e) es notes.1
+    ∙ ap (λ (x : Entry). (after_entry s x).standing.below) notes.0
+
+pub chain_reported : (stored : List Waiting) (g : Past) (ws : List ℕ) (up : List Bool) (all : List Waiting)
+    (s : State) (es : List Entry) (k : ℕ) (tail : List Tell) → AllByRecursion IsNote es → k ≤ length up
+    → (after_entries s es).tells ≡ tail → AreTells stored g ws up k (after_entries s es).standing.below tail
+    → AreGood stored g ws up all s es → Reported stored g ws (up_after up k tail) all s es tail
+chain_reported stored g ws up all s [] k tail notes low e are good =
+    record {
+      front = [];
+      split = e;
+      good = good_reported stored g ws up all s k [] tail e low are good;
+    }
+chain_reported stored g ws up all s (x ∷ es) k tail notes low e are good =
+    let is : x ≡ Tells = notes.0 in
+    let same : (after_entries (after_entry s Tells) es).standing.below ≡ s.standing.below =
+    same_below (after_entry s Tells) es notes.1 in
+    let now : after_entries (after_entry s x) es ≡ after_entries (after_entry s Tells) es =
+    ap (λ (y : Entry). after_entries (after_entry s y) es) is in
+    let tells : (after_entries (after_entry s Tells) es).tells ≡ tail = ap (λ (t : State). t.tells) (sym now) ∙ e in
+    let here : AreTells stored g ws up k (after_entries (after_entry s Tells) es).standing.below tail =
+    subst (λ (t : State). AreTells stored g ws up k t.standing.below tail) now are in
+    let first : AreTells stored g ws up k s.standing.below tail =
+    subst (λ (m : ℕ). AreTells stored g ws up k m tail) same here in
+    let all_good : AreGood stored g ws up all s (Tells ∷ es) =
+    subst (λ (y : Entry). AreGood stored g ws up all s (y ∷ es)) is good in
+    let more = chain_reported stored g ws up (all ++ []) (after_entry s Tells) es k tail notes.1 low tells here
+    all_good.1 in
+    subst (λ (y : Entry). Reported stored g ws (up_after up k tail) all s (y ∷ es) tail) (sym is)
+    (note_first stored g ws up all s es k tail low first all_good.0 more)
 
 -- ---- the same state, but for the count of octets
 
@@ -178,7 +246,8 @@ pub same_after : (s t : State) (e : Entry) → IsSame s t → IsSame (after_entr
 same_after s t e h =
     subst (λ (x : State). IsSame (after_entry x e) (after_entry t e)) (sym h.is) (same_at t h.live e)
 
-good_live : (stored : List Waiting) (g : Past) (ws : List ℕ) (up : ℕ) (all : List Waiting) (s : State) (live : ℕ)
+good_live : (stored : List Waiting) (g : Past) (ws : List ℕ) (up : List Bool) (all : List Waiting) (s : State)
+    (live : ℕ)
     → Good stored g ws up all (record s { live = live }) → Good stored g ws up all s
 good_live stored g ws up all s live h =
     record {
@@ -199,11 +268,12 @@ good_live stored g ws up all s live h =
           };
       start = h.start;
       reported = h.reported;
+      covered = h.covered;
       tells = h.tells;
       own = λ q. let o = h.own q in record { none = o.none; known = o.known; below = o.below; own = o.own };
     }
 
-pub good_same : (stored : List Waiting) (g : Past) (ws : List ℕ) (up : ℕ) (all : List Waiting) (s t : State)
+pub good_same : (stored : List Waiting) (g : Past) (ws : List ℕ) (up : List Bool) (all : List Waiting) (s t : State)
     → IsSame s t → Good stored g ws up all s → Good stored g ws up all t
 good_same stored g ws up all s t h is =
     good_live stored g ws up all t h.live (subst (Good stored g ws up all) h.is is)

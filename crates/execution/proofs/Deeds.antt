@@ -38,7 +38,8 @@ use Rattle.execution.specs.Execution.{IsOwed, AreOwed, IsGiven, IsCarriedOut, Ea
 use Rattle.execution.proofs.Lists.{all_more, all_at, get_append}
 use Rattle.execution.proofs.Records.{IsFit, HasRecords, fit_brought}
 use Rattle.execution.proofs.Records as records
-use Rattle.execution.proofs.Good.{Past, Good, IsMore, up_after, good_rebuilds, AreTells}
+use Rattle.execution.proofs.Tells.{Past, up_after, AreTells, up_stays}
+use Rattle.execution.proofs.Good.{Good, IsMore, good_rebuilds}
 use Rattle.execution.proofs.Chain.{all_in, same_now}
 use Rattle.execution.proofs.Keeping.{OnGround, ledger_good, on_append, on_stored, on_crash, stores_all, StoresAll}
 use Rattle.execution.proofs.Keeping.{torn_of}
@@ -57,10 +58,10 @@ use Rattle.execution.proofs.Own.{IsOwnRecord}
 pub record Holds (quiet : Bool) (s : System) : Type 0 where
   pub stored : List Waiting
   pub past : Past
-  pub up : ℕ
+  pub up : List Bool
   pub link : OnLink stored past s.packets s.orders s.statuses s.board
   pub ledger : OnGround stored past s.board.whole up s.ledger s.store s.given
-  pub told : AreMade stored past.said s.board.whole s.board.packets up s.told
+  pub told : AreMade stored past.said s.board.whole s.board.packets up (length up) s.told
   pub quiet_is : past.quiet ≡ quiet
   pub own : quiet ≡ true → AllByRecursion (λ (r : Report). IsOwn r.tell) s.told
 
@@ -164,8 +165,8 @@ made_so quiet s entry o e is none h =
     let rebuild : IsRebuild o = record { mark = mark_small; boot = is.boot; last = small } in
     let past : Past = with_order g order in
     let now : OnGround h.stored past s.board.whole h.up s.ledger s.store s.given =
-    ground_more h.stored g past s.board.whole s.board.whole h.up h.up s.ledger s.store s.given
-    (more_orders g order s.board.whole) (omega arith) h.ledger in
+    ground_more h.stored g past s.board.whole s.board.whole h.up s.ledger s.store s.given
+    (more_orders g order s.board.whole) h.ledger in
     let then_good = ledger_good h.stored past s.board.whole h.up s.ledger s.store s.given now in
     let after : OnGround h.stored past s.board.whole h.up (appended s.ledger (Rebuilds o)) s.store s.given =
     on_append h.stored past s.board.whole h.up s.ledger s.store s.given s.given (Rebuilds o) refl rebuild
@@ -216,7 +217,7 @@ appends_so quiet s (Stores octets) is h =
           s.given) h.ledger.given_is kept;
       told =
           all_made_more h.stored more g.said g.said s.board.whole s.board.whole s.board.packets s.board.packets h.up
-          s.told (λ r i. i) (same_board g.said s.board.whole s.board.packets) h.told;
+          h.up (length h.up) s.told (λ r i. i) (λ i b f. f) (same_board g.said s.board.whole s.board.packets) h.told;
       quiet_is = h.quiet_is;
       own = h.own;
     }
@@ -235,8 +236,9 @@ crash_so quiet s octets n e h =
       link = link_stored h.stored is.more g s.packets s.orders s.statuses s.board h.link;
       ledger = is.holds;
       told =
-          all_made_more h.stored is.more g.said g.said s.board.whole s.board.whole s.board.packets s.board.packets h.up
-          s.told (λ r i. i) (same_board g.said s.board.whole s.board.packets) h.told;
+          all_made_more h.stored is.more g.said g.said s.board.whole s.board.whole s.board.packets s.board.packets
+          h.up h.up (length h.up) s.told (λ r i. i) (λ i b f. f)
+          (same_board g.said s.board.whole s.board.packets) h.told;
       quiet_is = h.quiet_is;
       own = h.own;
     } in
@@ -267,31 +269,40 @@ reports_so quiet s noted (Stores octets) e h = h
 reports_so quiet s noted (views.Says tell) e h =
     let g : Past = h.past in
     let l : LedgerState = s.ledger in
-    let k = ledger_good h.stored g s.board.whole h.up l s.store s.given h.ledger in
+    let ws : List ℕ = s.board.whole in
+    let packets : List (List ℕ) = s.board.packets in
+    let k = ledger_good h.stored g ws h.up l s.store s.given h.ledger in
     let first = tells_first l tell e in
     let rest : List Tell = drop 1 l.state.tells in
-    let tells : AreTells h.stored g s.board.whole k.start l.state.standing.below (tell ∷ rest) =
-    subst (AreTells h.stored g s.board.whole k.start l.state.standing.below) first k.tells in
-    let now : IsMade h.stored g.said s.board.whole s.board.packets h.up (up_after h.up k.start (tell ∷ rest))
-    s.board.packets tell =
-    made_now h.stored g s.board.whole s.board.packets h.up k.start l.state.standing.below tell rest k.reported tells in
-    let made : IsMade h.stored g.said s.board.whole s.board.packets h.up (up_after h.up k.start l.state.tells)
-    s.board.packets tell =
-    subst (λ (ts : List Tell). IsMade h.stored g.said s.board.whole s.board.packets h.up (up_after h.up k.start ts)
-    s.board.packets tell) (sym first) now in
+    let below : ℕ = l.state.standing.below in
+    let tells : AreTells h.stored g ws h.up k.start below (tell ∷ rest) =
+    subst (AreTells h.stored g ws h.up k.start below) first k.tells in
+    let now = made_now h.stored g ws packets h.up k.start below tell rest k.reported tells in
+    let made : IsMade h.stored g.said ws packets (up_after h.up k.start l.state.tells) (length h.up)
+    (length (up_after h.up k.start l.state.tells)) packets tell =
+    subst (λ (ts : List Tell). IsMade h.stored g.said ws packets (up_after h.up k.start ts) (length h.up)
+    (length (up_after h.up k.start ts)) packets tell) (sym first) now in
+    let earlier = all_made_more h.stored [] g.said g.said ws ws packets packets h.up
+    (up_after h.up k.start l.state.tells) (length h.up) s.told (λ r i. i)
+    (up_stays h.up k.start l.state.tells k.reported).stays (same_board g.said ws packets) h.told in
     record {
       stored = h.stored;
       past = g;
       up = up_after h.up k.start l.state.tells;
       link = h.link;
-      ledger = on_told h.stored g s.board.whole h.up l s.store s.given noted h.ledger;
-      told = (h.up, made, h.told);
+      ledger = on_told h.stored g ws h.up l s.store s.given noted tell e h.ledger;
+      told = (
+        length h.up,
+        made,
+        subst (λ (cs : List Waiting). AreMade cs g.said ws packets (up_after h.up k.start l.state.tells)
+            (length h.up) s.told) (append-nil h.stored) earlier,
+      );
       quiet_is = h.quiet_is;
       own =
           λ q.
           let own = (k.own (h.quiet_is ∙ q)).own in
-          let now : AllByRecursion IsOwn (tell ∷ rest) = subst (AllByRecursion IsOwn) first own in
-          (now.0, h.own q);
+          let are : AllByRecursion IsOwn (tell ∷ rest) = subst (AllByRecursion IsOwn) first own in
+          (are.0, h.own q);
     }
 
 -- ---- what is sent
@@ -362,8 +373,8 @@ restart_so quiet s apid count h =
       up = h.up;
       link = link_directs h.stored g s.packets s.orders s.statuses s.board order fits (λ q. tt) h.link tt;
       ledger =
-          ground_more h.stored g past s.board.whole s.board.whole h.up h.up s.ledger s.store s.given
-          (more_orders g order s.board.whole) (omega arith) h.ledger;
+          ground_more h.stored g past s.board.whole s.board.whole h.up s.ledger s.store s.given
+          (more_orders g order s.board.whole) h.ledger;
       told = h.told;
       quiet_is = h.quiet_is;
       own = h.own;
@@ -381,7 +392,7 @@ happens_so quiet s event is calm h =
     let after : Board = board_step s.board event in
     let grows = happens_grows h.stored g s.packets s.orders s.statuses s.board event h.link in
     let told = all_made_more h.stored [] g.said g.said s.board.whole after.whole s.board.packets after.packets h.up
-    s.told (λ r i. i) grows h.told in
+    h.up (length h.up) s.told (λ r i. i) (λ i b f. f) grows h.told in
     record {
       stored = h.stored;
       past = g;
@@ -389,12 +400,11 @@ happens_so quiet s event is calm h =
       link =
           link_happens s h.stored g event is (λ q. calm (sym quiet_is ∙ q)) h.link;
       ledger =
-          ground_more h.stored g g s.board.whole after.whole h.up h.up s.ledger s.store s.given
+          ground_more h.stored g g s.board.whole after.whole h.up s.ledger s.store s.given
           (record { directed = λ o i. i; said = λ r i. i; lost = λ m i. i; whole = grows.whole; quiet = λ q. q })
-          (omega arith)
           h.ledger;
       told =
-          subst (λ (cs : List Waiting). AreMade cs g.said after.whole after.packets h.up s.told)
+          subst (λ (cs : List Waiting). AreMade cs g.said after.whole after.packets h.up (length h.up) s.told)
           (append-nil h.stored) told;
       quiet_is = h.quiet_is;
       own = h.own;
@@ -406,17 +416,17 @@ status_so quiet s waits h =
     let g : Past = h.past in
     let is = link_told h.stored g s.board.whole s.packets s.orders s.statuses s.board waits h.link in
     let told = all_made_more h.stored [] g.said is.past.said s.board.whole s.board.whole s.board.packets
-    s.board.packets h.up s.told is.more.said (same_board g.said s.board.whole s.board.packets) h.told in
+    s.board.packets h.up h.up (length h.up) s.told is.more.said (λ i b f. f)
+    (same_board g.said s.board.whole s.board.packets) h.told in
     record {
       stored = h.stored;
       past = is.past;
       up = h.up;
       link = is.holds;
       ledger =
-          ground_more h.stored g is.past s.board.whole s.board.whole h.up h.up s.ledger s.store s.given is.more
-          (omega arith) h.ledger;
+          ground_more h.stored g is.past s.board.whole s.board.whole h.up s.ledger s.store s.given is.more h.ledger;
       told =
-          subst (λ (cs : List Waiting). AreMade cs is.past.said s.board.whole s.board.packets h.up s.told)
+          subst (λ (cs : List Waiting). AreMade cs is.past.said s.board.whole s.board.packets h.up (length h.up) s.told)
           (append-nil h.stored) told;
       quiet_is = is.quiet ∙ h.quiet_is;
       own = h.own;
@@ -456,7 +466,7 @@ run_holds quiet s (deed ∷ deeds) is calm h =
 new_holds : (quiet : Bool) (max_packet : ℕ) → Holds quiet (new_system max_packet)
 new_holds quiet max_packet =
     let fit : IsFit 0 (no_commands 0 0) = fit_brought 0 0 0 (omega arith) (omega arith) (omega arith) in
-    let good : Good [] (record { directed = []; said = []; lost = []; quiet = quiet }) [] 0 [] new_state =
+    let good : Good [] (record { directed = []; said = []; lost = []; quiet = quiet }) [] [] [] new_state =
     record {
       rest = [];
       goes_on = refl;
@@ -468,6 +478,7 @@ new_holds quiet max_packet =
       remembers = record { doubt = omega arith; mark = tt; lost = tt; order = tt; directed = tt };
       start = 0;
       reported = omega arith;
+      covered = omega arith;
       tells = refl;
       own = λ q. record { none = refl; known = inl refl; below = omega arith; own = tt };
     } in
@@ -476,7 +487,7 @@ new_holds quiet max_packet =
     record {
       stored = [];
       past = record { directed = []; said = []; lost = []; quiet = quiet };
-      up = 0;
+      up = [];
       link =
           record {
             high = 0;
@@ -510,6 +521,7 @@ new_holds quiet max_packet =
             same = same_now new_state;
             safe = refl;
             given_is = refl;
+            notes = λ f. tt;
           };
       told = refl;
       quiet_is = refl;
@@ -530,8 +542,8 @@ said_so quiet s h octets kept waits n among e known =
     (is.0 kept refl).2 n known
 
 -- if no report is due, all up to this number were made
-all_reported : (stored : List Waiting) (g : Past) (ws : List ℕ) (up n m : ℕ) (ts : List Tell) → ts ≡ [] → n ≤ up
-    → AreTells stored g ws n m ts → m ≤ up
+all_reported : (stored : List Waiting) (g : Past) (ws : List ℕ) (up : List Bool) (n m : ℕ) (ts : List Tell) → ts ≡ []
+    → n ≤ length up → AreTells stored g ws up n m ts → m ≤ length up
 all_reported stored g ws up n m [] e low are = omega (arith, low, are)
 all_reported stored g ws up n m (t ∷ ts) e low are = absurd cc
 
@@ -549,7 +561,7 @@ are_carried_out quiet s h =
       whole = so.whole;
       told = (
         h.up,
-        all_true s h.stored (all_in h.ledger.new) h.past.said h.up s.told h.ledger.given_is h.told,
+        all_true s h.stored (all_in h.ledger.new) h.past.said h.up (length h.up) s.told h.ledger.given_is h.told,
         λ none.
             all_reported h.stored h.past s.board.whole h.up k.start s.ledger.state.standing.below
             s.ledger.state.tells none k.reported k.tells,

@@ -27,7 +27,8 @@ use Rattle.execution.proofs.Lists.{all_more, all_at}
 use Rattle.execution.proofs.Records.{records_step, reports, Reports, IsFit, Keeps, KeepsOrder}
 use Rattle.execution.proofs.Records.{fit_executed, fit_started, fit_begun, fit_brought}
 use Rattle.execution.proofs.Held.{TakesGiven, held_step}
-use Rattle.execution.proofs.Good.{Past, IsMore}
+use Rattle.execution.proofs.Tells.{Past}
+use Rattle.execution.proofs.Good.{IsMore}
 use Rattle.execution.proofs.Own.{IsOwnRecord, IsOwnBoard, IsNoRebuild, own_begun, own_executed, started_own, own_said}
 use Rattle.execution.proofs.Link.{OnLink, IsSaid, IsSentOrder, IsFitOrder, IsReported, pair_of, given_low}
 use Rattle.execution.proofs.Link.{IsReached, reached_step}

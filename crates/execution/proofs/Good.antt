@@ -1,20 +1,18 @@
 -- The state of a ledger agrees with what was sent and said; each entry keeps this.
-use Rattle.std.proofs.Common.{◌≡◌, ℕ, suc, ◌+◌, ◌-◌, ◌<◌, ◌≤◌, min, max, List, [], ◌∷◌, ◌++◌, length}
+use Rattle.std.proofs.Common.{◌≡◌, ℕ, ◌+◌, ◌-◌, ◌<◌, ◌≤◌, min, max, List, [], ◌∷◌, ◌++◌, length}
 use Rattle.std.proofs.Common.{refl, sym, ◌∙◌, ap, subst, arith, drop, take, length-append, length-drop, append_assoc}
 use Rattle.std.proofs.Common.{append-nil}
-use Rattle.std.proofs.Common.{Some, None, Option, Bool, true, false, IfSome, eqb-true}
-use Rattle.std.proofs.lemmas.Bool.{leb-true, le-ltb, cond_both}
+use Rattle.std.proofs.Common.{Some, None, Option, Bool, true, false, IfSome}
+use Rattle.std.proofs.lemmas.Bool.{le-ltb, cond_both}
 use Rattle.std.proofs.lemmas.List.{drop-drop, drop-append-le, length-take-le}
 use Rattle.std.specs.Prelude.{◌^◌, ◌&&◌, ◌==◌, nat_lt, nat_le, if◌then◌else◌, slice_get, option_to_list}
 use Rattle.std.proofs.Common.{◌⊎◌, inl, inr}
 use Rattle.std.specs.List.{AllByRecursion}
-use Rattle.std.specs.Int.{bit_at}
 use Rattle.command_log.specs.declared.record.Record.{Record}
 use Rattle.command_log.specs.declared.packets.Order.{Order}
 use Rattle.command_log.specs.declared.packets.Order.TheVariants as orders
 use Rattle.command_log.specs.Record.{no_commands}
 use Rattle.command_log.specs.Board.{IsAmong, IsKnown}
-use Rattle.command_log.proofs.Steps.{both}
 use Rattle.command_ledger.specs.declared.known.Standing.{Standing}
 use Rattle.command_ledger.specs.declared.known.Rebuild.{Rebuild}
 use Rattle.command_ledger.specs.declared.state.Tell.{Tell}
@@ -26,96 +24,12 @@ use Rattle.command_ledger.specs.State.{State, Rebuilds, Tells, highest, after_en
 use Rattle.command_ledger.specs.State.{hears, heard, gives, loses, agrees, fates, passed, below_after, doubt_after}
 use Rattle.command_ledger.specs.State.{restarted, foreign}
 use Rattle.execution.specs.Own.{IsOwn}
-use Rattle.execution.proofs.Lists.{get_append, get_front, get_drop, get_take, get_low, IsPacket, ArePackets}
+use Rattle.execution.proofs.Lists.{get_front, get_drop, get_take, get_low, IsPacket, ArePackets}
 use Rattle.execution.proofs.Lists.{packets_push}
 use Rattle.execution.proofs.Records.{IsFit, last_reached, fit_more}
-
--- what was sent and said
-pub record Past : Type 0 where
-  pub directed : List Order
-  pub said : List Record
-  pub lost : List ℕ
-  -- whether no order that brings a record was made
-  pub quiet : Bool
-
--- ---- reports
-
--- the command at this index has this tag
-pub record HasTag (stored : List Waiting) (place tag : ℕ) : Type 0 where
-  pub command : Waiting
-  pub there : slice_get stored place ≡ Some command
-  pub tagged : command.tag ≡ tag
-
--- the board has passed this number
-pub record IsPassed (said : List Record) (n : ℕ) : Type 0 where
-  pub kept : Record
-  pub among : IsAmong kept said
-  pub passed : n ≤ kept.last
-
--- the reports are those of the commands from the index n up to the index m
-abbrev pub AreTells : List Waiting → Past → List ℕ → (n m : ℕ) → List Tell → Type 0
-AreTells stored g ws n m [] = n ≡ m
-AreTells stored g ws n m (Executed tag ∷ ts) =
-    HasTag stored n tag × IsAmong (n + 1) ws × AreTells stored g ws (n + 1) m ts
-AreTells stored g ws n m (Unknown tag ∷ ts) =
-    HasTag stored n tag × IsPassed g.said (n + 1) × AreTells stored g ws (n + 1) m ts
-AreTells stored g ws n m (Restarted boot ∷ ts) = AreTells stored g ws n m ts
-AreTells stored g ws n m (RecordLost mark ∷ ts) = AreTells stored g ws n m ts
-AreTells stored g ws n m (Foreign first last ∷ ts) = AreTells stored g ws n m ts
-
-tells_both : (stored : List Waiting) (g : Past) (ws : List ℕ) (n m k : ℕ) (ts us : List Tell)
-    → AreTells stored g ws n m ts → AreTells stored g ws m k us → AreTells stored g ws n k (ts ++ us)
-tells_both stored g ws n m k [] us are more = subst (λ (i : ℕ). AreTells stored g ws i k us) (sym are) more
-tells_both stored g ws n m k (Executed tag ∷ ts) us are more =
-    (are.0, are.1, tells_both stored g ws (n + 1) m k ts us are.2 more)
-tells_both stored g ws n m k (Unknown tag ∷ ts) us are more =
-    (are.0, are.1, tells_both stored g ws (n + 1) m k ts us are.2 more)
-tells_both stored g ws n m k (Restarted boot ∷ ts) us are more = tells_both stored g ws n m k ts us are more
-tells_both stored g ws n m k (RecordLost mark ∷ ts) us are more = tells_both stored g ws n m k ts us are more
-tells_both stored g ws n m k (Foreign first last ∷ ts) us are more = tells_both stored g ws n m k ts us are more
-
-no_restart : (stored : List Waiting) (g : Past) (ws : List ℕ) (n : ℕ) (flag : Bool) (boot : ℕ)
-    → AreTells stored g ws n n (option_to_list (if flag then None else Some (Restarted boot)))
-no_restart stored g ws n true boot = refl
-no_restart stored g ws n false boot = refl
-
-no_foreign : (stored : List Waiting) (g : Past) (ws : List ℕ) (n : ℕ) (flag : Bool) (first last : ℕ)
-    → AreTells stored g ws n n (option_to_list (if flag then None else Some (Foreign first last)))
-no_foreign stored g ws n true first last = refl
-no_foreign stored g ws n false first last = refl
-
-known_of : (kept : Record) (n : ℕ) → 0 < n → is_marked kept n ≡ true → IsKnown kept n
-known_of kept n some e =
-    let b = both (nat_le n kept.last) (nat_lt (kept.last - n) 64 && (bit_at kept.known (kept.last - n) == 1)) e in
-    let d = both (nat_lt (kept.last - n) 64) (bit_at kept.known (kept.last - n) == 1) b.1 in
-    (some, leb-true n kept.last b.0, eqb-true (bit_at kept.known (kept.last - n)) 1 d.1)
-
-fate_is : (stored : List Waiting) (g : Past) (ws : List ℕ) (n m tag : ℕ) (ts : List Tell) (flag : Bool)
-    → HasTag stored n tag → (flag ≡ true → IsAmong (n + 1) ws) → IsPassed g.said (n + 1)
-    → AreTells stored g ws (n + 1) m ts
-    → AreTells stored g ws n m ((if flag then Executed tag else Unknown tag) ∷ ts)
-fate_is stored g ws n m tag ts true has known is more = (has, known refl, more)
-fate_is stored g ws n m tag ts false has known is more = (has, is, more)
-
-fates_are : (stored : List Waiting) (g : Past) (ws : List ℕ) (kept : Record) (doubt : ℕ) (cs : List Waiting) (n m : ℕ)
-    → IsAmong kept g.said → ((i : ℕ) → IsKnown kept i → IsAmong i ws)
-    → ((i : ℕ) (c : Waiting) → slice_get cs i ≡ Some c → slice_get stored (n + i) ≡ Some c)
-    → m ≡ n + length cs → (n < m → m ≤ kept.last) → AreTells stored g ws n m (fates kept doubt (n + 1) cs)
-fates_are stored g ws kept doubt [] n m among known at e low = omega (arith, e)
-fates_are stored g ws kept doubt (c ∷ cs) n m among known at e low =
-    let up : n < m = omega (arith, e) in
-    let last = low up in
-    let here : n + 0 ≡ n = omega arith in
-    let has : HasTag stored n c.tag =
-    record { command = c; there = subst (λ (k : ℕ). slice_get stored k ≡ Some c) here (at 0 c refl); tagged = refl } in
-    let some : 0 < n + 1 = omega arith in
-    fate_is stored g ws n m c.tag (fates kept doubt (n + 1 + 1) cs) (nat_lt doubt (n + 1) && is_marked kept (n + 1)) has
-    (λ t. known (n + 1) (known_of kept (n + 1) some (both (nat_lt doubt (n + 1)) (is_marked kept (n + 1)) t).1))
-    (record { kept = kept; among = among; passed = omega (arith, up, last) })
-    (fates_are stored g ws kept doubt cs (n + 1) m among known
-    (λ i d f. let up_one : n + suc i ≡ n + 1 + i = omega arith in
-    subst (λ (k : ℕ). slice_get stored k ≡ Some d) up_one (at (suc i) d f))
-    (omega (arith, e)) (λ _. last))
+use Rattle.execution.proofs.Tells.{AreTells, IsPassed, Past, fates_are, first_count, next_tells, no_foreign}
+use Rattle.execution.proofs.Tells.{no_restart, tells_both, tells_low, tells_pushed, tells_stored, up_after, up_long}
+use Rattle.execution.proofs.Tells.{up_stays}
 
 -- ---- a state
 
@@ -161,7 +75,7 @@ own_rest [] are = tt
 own_rest (t ∷ ts) are = are.1
 
 -- `all` are the commands that were given up to this state, and `up` is the highest reported number
-pub record Good (stored : List Waiting) (g : Past) (ws : List ℕ) (up : ℕ) (all : List Waiting) (s : State)
+pub record Good (stored : List Waiting) (g : Past) (ws : List ℕ) (up : List Bool) (all : List Waiting) (s : State)
     : Type 0 where
   pub rest : List Waiting
   pub goes_on : all ≡ stored ++ rest
@@ -172,11 +86,12 @@ pub record Good (stored : List Waiting) (g : Past) (ws : List ℕ) (up : ℕ) (a
   pub board : IsFit (length stored) s.standing.board
   pub remembers : Remembers g s.standing
   pub start : ℕ
-  pub reported : start ≤ up
-  pub tells : AreTells stored g ws start s.standing.below s.tells
+  pub reported : start ≤ length up
+  pub covered : length up ≤ s.standing.below
+  pub tells : AreTells stored g ws up start s.standing.below s.tells
   pub own : g.quiet ≡ true → IsOwnState g.said s
 
-pub good_highest : (stored : List Waiting) (g : Past) (ws : List ℕ) (up : ℕ) (all : List Waiting) (s : State)
+pub good_highest : (stored : List Waiting) (g : Past) (ws : List ℕ) (up : List Bool) (all : List Waiting) (s : State)
     → Good stored g ws up all s → highest s ≡ length all
 good_highest stored g ws up all s h =
     let long : length s.commands ≡ length all - s.standing.below =
@@ -214,7 +129,7 @@ below_is : (flag : Bool) (r n : ℕ) → flag ≡ false → (if flag then r else
 below_is true r n e = absurd cc
 below_is false r n e = refl
 
-good_heard : (stored : List Waiting) (g : Past) (ws : List ℕ) (up : ℕ) (all : List Waiting) (s : State)
+good_heard : (stored : List Waiting) (g : Past) (ws : List ℕ) (up : List Bool) (all : List Waiting) (s : State)
     (known : Standing) (kept : Record) (agree : Bool) → IsAmong kept g.said → IsFit (length stored) kept
     → ((i : ℕ) → IsKnown kept i → IsAmong i ws) → Remembers g known
     → (g.quiet ≡ true → (known.order ≡ None) × (agree ≡ true) × (s.standing.below ≤ kept.last))
@@ -225,6 +140,7 @@ good_heard stored g ws up all s known kept agree among fits knows remembers own 
     let count : ℕ = passed below many kept in
     let long : many ≡ length all - below = ap length h.commands ∙ length-drop below all in
     let low = h.low in
+    let covered = h.covered in
     let goes = ap length h.goes_on ∙ length-append stored h.rest in
     let up_to = fits.reach in
     let few : reach kept ≤ below + many = omega (arith, long, low, goes, up_to) in
@@ -245,16 +161,17 @@ good_heard stored g ws up all s known kept agree among fits knows remembers own 
     subst (λ (xs : List Waiting). slice_get xs (below + i) ≡ Some c) h.goes_on there in
     let i_low = get_low cs i c e in
     get_front stored h.rest (below + i) c both_there (omega (arith, i_low, some, last)) in
-    let told : AreTells stored g ws below (below + count) (fates kept doubt (below + 1) cs) =
-    fates_are stored g ws kept doubt cs below (below + count) among knows at (omega (arith, some))
-    (λ b. omega (arith, b)) in
-    let first = no_restart stored g ws below (s.standing.board.boot == kept.boot) kept.boot in
-    let second = no_foreign stored g ws below agree (min (reach known.board + 1) 4294967295) (reach kept) in
-    let new = tells_both stored g ws below below (below + count)
+    let told : AreTells stored g ws up below (below + count) (fates kept doubt (below + 1) cs) =
+    fates_are stored g ws up kept doubt cs below (below + count) among knows at (omega (arith, some))
+    (λ b. omega (arith, b)) h.covered in
+    let first = no_restart stored g ws up below (s.standing.board.boot == kept.boot) kept.boot in
+    let second = no_foreign stored g ws up below agree (min (reach known.board + 1) 4294967295) (reach kept) in
+    let new = tells_both stored g ws up below below (below + count)
     (option_to_list (restarted s.standing.board kept)) _ first
-    (tells_both stored g ws below below (below + count) (option_to_list (foreign agree known.board kept)) _ second told)
+    (tells_both stored g ws up below below (below + count) (option_to_list
+    (foreign agree known.board kept)) _ second told)
     in
-    let tells = tells_both stored g ws h.start below (below + count) s.tells _ h.tells new in
+    let tells = tells_both stored g ws up h.start below (below + count) s.tells _ h.tells new in
     let commands : drop count s.commands ≡ drop (below + count) all =
     ap (drop count) h.commands ∙ drop-drop count below all in
     record {
@@ -275,8 +192,9 @@ good_heard stored g ws up all s known kept agree among fits knows remembers own 
           };
       start = h.start;
       reported = h.reported;
+      covered = subst (λ (n : ℕ). length up ≤ n) (sym then_below) (omega (arith, covered));
       tells =
-          subst (λ (n : ℕ). AreTells stored g ws h.start n (heard s known kept agree).tells) (sym then_below) tells;
+          subst (λ (n : ℕ). AreTells stored g ws up h.start n (heard s known kept agree).tells) (sym then_below) tells;
       own =
           λ q.
           let o = own q in
@@ -298,7 +216,7 @@ good_heard stored g ws up all s known kept agree among fits knows remembers own 
 
 -- ---- each entry
 
-pub good_hears : (stored : List Waiting) (g : Past) (ws : List ℕ) (up : ℕ) (all : List Waiting) (s : State)
+pub good_hears : (stored : List Waiting) (g : Past) (ws : List ℕ) (up : List Bool) (all : List Waiting) (s : State)
     (kept : Record) → IsAmong kept g.said → IsFit (length stored) kept → ((i : ℕ) → IsKnown kept i → IsAmong i ws)
     → (g.quiet ≡ true → (agrees s.standing.below s.commands s.standing.board kept ≡ true)
     × (s.standing.below ≤ kept.last))
@@ -317,7 +235,7 @@ good_hears stored g ws up all s kept among fits knows own h =
     ))
     h
 
-pub good_gives : (stored : List Waiting) (g : Past) (ws : List ℕ) (up : ℕ) (all : List Waiting) (s : State)
+pub good_gives : (stored : List Waiting) (g : Past) (ws : List ℕ) (up : List Bool) (all : List Waiting) (s : State)
     (c : Waiting) → IsPacket (length all + 1) c → length all + 1 < 2 ^ 32 → Good stored g ws up all s
     → Good stored g ws up (all ++ c ∷ []) (gives s c)
 good_gives stored g ws up all s c is few h =
@@ -336,11 +254,12 @@ good_gives stored g ws up all s c is few h =
       remembers = h.remembers;
       start = h.start;
       reported = h.reported;
+      covered = h.covered;
       tells = h.tells;
       own = λ q. let o = h.own q in record { none = o.none; known = o.known; below = o.below; own = o.own };
     }
 
-pub good_loses : (stored : List Waiting) (g : Past) (ws : List ℕ) (up : ℕ) (all : List Waiting) (s : State)
+pub good_loses : (stored : List Waiting) (g : Past) (ws : List ℕ) (up : List Bool) (all : List Waiting) (s : State)
     (mark : ℕ) → mark < 2 ^ 32 → IsAmong mark g.lost → Good stored g ws up all s
     → Good stored g ws up all (loses s mark)
 good_loses stored g ws up all s mark small among h =
@@ -362,8 +281,10 @@ good_loses stored g ws up all s mark small among h =
           };
       start = h.start;
       reported = h.reported;
+      covered = h.covered;
       tells =
-          tells_both stored g ws h.start s.standing.below s.standing.below s.tells (RecordLost mark ∷ []) h.tells refl;
+          tells_both stored g ws up h.start s.standing.below s.standing.below s.tells
+          (RecordLost mark ∷ []) h.tells refl;
       own =
           λ q.
           let o = h.own q in
@@ -375,7 +296,7 @@ good_loses stored g ws up all s mark small among h =
           };
     }
 
-pub good_rebuilds : (stored : List Waiting) (g : Past) (ws : List ℕ) (up : ℕ) (all : List Waiting) (s : State)
+pub good_rebuilds : (stored : List Waiting) (g : Past) (ws : List ℕ) (up : List Bool) (all : List Waiting) (s : State)
     (o : Rebuild) → IsRebuild o → IsAmong (orders.Rebuild o.mark o.boot o.last) g.directed → (g.quiet ≡ true → ⊥)
     → Good stored g ws up all s → Good stored g ws up all (after_entry s (Rebuilds o))
 good_rebuilds stored g ws up all s o is among loud h =
@@ -397,47 +318,15 @@ good_rebuilds stored g ws up all s o is among loud h =
           };
       start = h.start;
       reported = h.reported;
+      covered = h.covered;
       tells = h.tells;
       own = λ q. absurd (loud q);
     }
 
--- the highest reported number after a report
-abbrev pub up_after : (up n : ℕ) → List Tell → ℕ
-up_after up n [] = up
-up_after up n (Executed tag ∷ ts) = max up (n + 1)
-up_after up n (Unknown tag ∷ ts) = max up (n + 1)
-up_after up n (Restarted boot ∷ ts) = up
-up_after up n (RecordLost mark ∷ ts) = up
-up_after up n (Foreign first last ∷ ts) = up
-
-pub up_more : (up n : ℕ) (ts : List Tell) → up ≤ up_after up n ts
-up_more up n [] = omega arith
-up_more up n (Executed tag ∷ ts) = omega arith
-up_more up n (Unknown tag ∷ ts) = omega arith
-up_more up n (Restarted boot ∷ ts) = omega arith
-up_more up n (RecordLost mark ∷ ts) = omega arith
-up_more up n (Foreign first last ∷ ts) = omega arith
-
-record Starts (stored : List Waiting) (g : Past) (ws : List ℕ) (up m : ℕ) (ts : List Tell) : Type 0 where
-  start : ℕ
-  reported : start ≤ up
-  tells : AreTells stored g ws start m ts
-
-next_start : (stored : List Waiting) (g : Past) (ws : List ℕ) (up n m : ℕ) (ts : List Tell) → n ≤ up
-    → AreTells stored g ws n m ts → Starts stored g ws (up_after up n ts) m (drop 1 ts)
-next_start stored g ws up n m [] low are = record { start = n; reported = low; tells = are }
-next_start stored g ws up n m (Executed tag ∷ ts) low are =
-    record { start = n + 1; reported = omega arith; tells = are.2 }
-next_start stored g ws up n m (Unknown tag ∷ ts) low are =
-    record { start = n + 1; reported = omega arith; tells = are.2 }
-next_start stored g ws up n m (Restarted boot ∷ ts) low are = record { start = n; reported = low; tells = are }
-next_start stored g ws up n m (RecordLost mark ∷ ts) low are = record { start = n; reported = low; tells = are }
-next_start stored g ws up n m (Foreign first last ∷ ts) low are = record { start = n; reported = low; tells = are }
-
-pub good_told : (stored : List Waiting) (g : Past) (ws : List ℕ) (up : ℕ) (all : List Waiting) (s : State)
-    (h : Good stored g ws up all s) → Good stored g ws (up_after up h.start s.tells) all (after_entry s Tells)
-good_told stored g ws up all s h =
-    let next = next_start stored g ws up h.start s.standing.below s.tells h.reported h.tells in
+pub good_told : (stored : List Waiting) (g : Past) (ws : List ℕ) (up : List Bool) (all : List Waiting) (s : State)
+    (h : Good stored g ws up all s) → h.start + first_count s.tells ≤ length up
+    → Good stored g ws up all (after_entry s Tells)
+good_told stored g ws up all s h low =
     record {
       rest = h.rest;
       goes_on = h.goes_on;
@@ -447,13 +336,46 @@ good_told stored g ws up all s h =
       commands = h.commands;
       board = h.board;
       remembers = h.remembers;
-      start = next.start;
-      reported = next.reported;
-      tells = next.tells;
+      start = h.start + first_count s.tells;
+      reported = low;
+      covered = h.covered;
+      tells = next_tells stored g ws up h.start s.standing.below s.tells h.tells;
       own =
           λ q.
           let o = h.own q in
           record { none = o.none; known = o.known; below = o.below; own = own_rest s.tells o.own };
+    }
+
+-- ---- a report is made
+
+pub good_reported : (stored : List Waiting) (g : Past) (ws : List ℕ) (up : List Bool) (all : List Waiting) (s : State)
+    (k : ℕ) (front tail : List Tell) → s.tells ≡ front ++ tail → k ≤ length up
+    → AreTells stored g ws up k s.standing.below tail → Good stored g ws up all s
+    → Good stored g ws (up_after up k tail) all s
+good_reported stored g ws up all s k front tail e low are h =
+    let stays = up_stays up k tail low in
+    let more = stays.long in
+    let long = up_long up k tail low in
+    let reported = h.reported in
+    let covered = h.covered in
+    let most = tells_low stored g ws up k s.standing.below tail are in
+    let now = subst (AreTells stored g ws up h.start s.standing.below) e h.tells in
+    record {
+      rest = h.rest;
+      goes_on = h.goes_on;
+      few = h.few;
+      packets = h.packets;
+      low = h.low;
+      commands = h.commands;
+      board = h.board;
+      remembers = h.remembers;
+      start = h.start;
+      reported = omega (arith, reported, more);
+      covered = omega (arith, covered, long, most);
+      tells =
+          subst (AreTells stored g ws (up_after up k tail) h.start s.standing.below) (sym e)
+          (tells_pushed stored g ws up h.start k s.standing.below front tail low now are);
+      own = h.own;
     }
 
 -- ---- more is known
@@ -469,16 +391,17 @@ passed_more : (g h : Past) (ws vs : List ℕ) (n : ℕ) → IsMore g h ws vs →
 passed_more g h ws vs n more is =
     record { kept = is.kept; among = more.said is.kept is.among; passed = is.passed }
 
-tells_more : (stored : List Waiting) (g h : Past) (ws vs : List ℕ) (n m : ℕ) (ts : List Tell) → IsMore g h ws vs
-    → AreTells stored g ws n m ts → AreTells stored h vs n m ts
-tells_more stored g h ws vs n m [] more are = are
-tells_more stored g h ws vs n m (Executed tag ∷ ts) more are =
-    (are.0, more.whole (n + 1) are.1, tells_more stored g h ws vs (n + 1) m ts more are.2)
-tells_more stored g h ws vs n m (Unknown tag ∷ ts) more are =
-    (are.0, passed_more g h ws vs (n + 1) more are.1, tells_more stored g h ws vs (n + 1) m ts more are.2)
-tells_more stored g h ws vs n m (Restarted boot ∷ ts) more are = tells_more stored g h ws vs n m ts more are
-tells_more stored g h ws vs n m (RecordLost mark ∷ ts) more are = tells_more stored g h ws vs n m ts more are
-tells_more stored g h ws vs n m (Foreign first last ∷ ts) more are = tells_more stored g h ws vs n m ts more are
+tells_more : (stored : List Waiting) (g h : Past) (ws vs : List ℕ) (up : List Bool) (n m : ℕ) (ts : List Tell)
+    → IsMore g h ws vs
+    → AreTells stored g ws up n m ts → AreTells stored h vs up n m ts
+tells_more stored g h ws vs up n m [] more are = are
+tells_more stored g h ws vs up n m (Executed tag ∷ ts) more are =
+    (are.0, more.whole (n + 1) are.1, are.2, tells_more stored g h ws vs up (n + 1) m ts more are.3)
+tells_more stored g h ws vs up n m (Unknown tag ∷ ts) more are =
+    (are.0, passed_more g h ws vs (n + 1) more are.1, are.2, tells_more stored g h ws vs up (n + 1) m ts more are.3)
+tells_more stored g h ws vs up n m (Restarted boot ∷ ts) more are = tells_more stored g h ws vs up n m ts more are
+tells_more stored g h ws vs up n m (RecordLost mark ∷ ts) more are = tells_more stored g h ws vs up n m ts more are
+tells_more stored g h ws vs up n m (Foreign first last ∷ ts) more are = tells_more stored g h ws vs up n m ts more are
 
 lost_more : (g h : Past) (mark : Option ℕ) → ((m : ℕ) → IsAmong m g.lost → IsAmong m h.lost)
     → IfSome mark (λ m. IsAmong m g.lost) → IfSome mark (λ m. IsAmong m h.lost)
@@ -505,10 +428,9 @@ own_more said news s more is =
       own = is.own;
     }
 
-pub good_more : (stored : List Waiting) (g h : Past) (ws vs : List ℕ) (up high : ℕ) (all : List Waiting) (s : State)
-    → IsMore g h ws vs → up ≤ high → Good stored g ws up all s → Good stored h vs high all s
-good_more stored g h ws vs up high all s more low is =
-    let reported = is.reported in
+pub good_more : (stored : List Waiting) (g h : Past) (ws vs : List ℕ) (up : List Bool) (all : List Waiting) (s : State)
+    → IsMore g h ws vs → Good stored g ws up all s → Good stored h vs up all s
+good_more stored g h ws vs up all s more is =
     record {
       rest = is.rest;
       goes_on = is.goes_on;
@@ -526,33 +448,16 @@ good_more stored g h ws vs up high all s more low is =
             directed = order_more g h s.standing.order more.directed is.remembers.directed;
           };
       start = is.start;
-      reported = omega (arith, low, reported);
-      tells = tells_more stored g h ws vs is.start s.standing.below s.tells more is.tells;
+      reported = is.reported;
+      covered = is.covered;
+      tells = tells_more stored g h ws vs up is.start s.standing.below s.tells more is.tells;
       own = λ q. own_more g.said h.said s more.said (is.own (more.quiet q));
     }
 
 -- ---- all commands are stored
 
-pub tag_more : (stored rest : List Waiting) (n tag : ℕ) → HasTag stored n tag → HasTag (stored ++ rest) n tag
-tag_more stored rest n tag is =
-    record {
-      command = is.command;
-      there = get_append stored rest n is.command is.there;
-      tagged = is.tagged;
-    }
-
-tells_stored : (stored rest : List Waiting) (g : Past) (ws : List ℕ) (n m : ℕ) (ts : List Tell)
-    → AreTells stored g ws n m ts → AreTells (stored ++ rest) g ws n m ts
-tells_stored stored rest g ws n m [] are = are
-tells_stored stored rest g ws n m (Executed tag ∷ ts) are =
-    (tag_more stored rest n tag are.0, are.1, tells_stored stored rest g ws (n + 1) m ts are.2)
-tells_stored stored rest g ws n m (Unknown tag ∷ ts) are =
-    (tag_more stored rest n tag are.0, are.1, tells_stored stored rest g ws (n + 1) m ts are.2)
-tells_stored stored rest g ws n m (Restarted boot ∷ ts) are = tells_stored stored rest g ws n m ts are
-tells_stored stored rest g ws n m (RecordLost mark ∷ ts) are = tells_stored stored rest g ws n m ts are
-tells_stored stored rest g ws n m (Foreign first last ∷ ts) are = tells_stored stored rest g ws n m ts are
-
-pub good_stored : (stored : List Waiting) (g : Past) (ws : List ℕ) (up : ℕ) (all rest : List Waiting) (s : State)
+pub good_stored : (stored : List Waiting) (g : Past) (ws : List ℕ) (up : List Bool) (all rest : List Waiting)
+    (s : State)
     → all ≡ stored ++ rest → Good stored g ws up all s → Good all g ws up all s
 good_stored stored g ws up all rest s e h =
     let long = ap length e ∙ length-append stored rest in
@@ -567,8 +472,9 @@ good_stored stored g ws up all rest s e h =
       remembers = h.remembers;
       start = h.start;
       reported = h.reported;
+      covered = h.covered;
       tells =
-          subst (λ (xs : List Waiting). AreTells xs g ws h.start s.standing.below s.tells) (sym e)
-          (tells_stored stored rest g ws h.start s.standing.below s.tells h.tells);
+          subst (λ (xs : List Waiting). AreTells xs g ws up h.start s.standing.below s.tells) (sym e)
+          (tells_stored stored rest g ws up h.start s.standing.below s.tells h.tells);
       own = h.own;
     }

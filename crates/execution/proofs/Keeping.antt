@@ -3,7 +3,9 @@ use Rattle.std.proofs.Common.{◌≡◌, ℕ, zero, suc, List, [], ◌∷◌, �
 use Rattle.std.proofs.Common.{refl, sym, ◌∙◌, ap, subst, take, append_assoc, append-nil}
 use Rattle.std.proofs.Common.{Some, None, Option, Bool, true, false}
 use Rattle.std.proofs.lemmas.List.{take_at}
-use Rattle.std.specs.Prelude.{⊤, slice_get, if◌then◌else◌}
+use Rattle.std.specs.Prelude.{⊤, ◌||◌, slice_get, if◌then◌else◌}
+use Rattle.std.specs.List.{AllByRecursion}
+use Rattle.command_ledger.specs.Ledger.{is_due}
 use Rattle.command_ledger.specs.declared.state.Tell.{Tell}
 use Rattle.command_ledger.specs.Waiting.{Waiting}
 use Rattle.command_ledger.specs.State.{State, Entry, Gives, Hears, Loses, Rebuilds, Tells, Stands, new_state, highest}
@@ -15,14 +17,15 @@ use Rattle.command_ledger.specs.Ledger.{all_stored, told_or_stored}
 use Rattle.command_ledger.specs.Kept.{IsFitting, AreEntries, after_entries, store_octets}
 use Rattle.command_ledger.proofs.Kept.{each_store}
 use Rattle.execution.specs.System.{due_octets}
-use Rattle.execution.proofs.Good.{Past, Good, good_highest, good_stored}
+use Rattle.execution.proofs.Tells.{Past}
+use Rattle.execution.proofs.Good.{Good, good_highest, good_stored}
 use Rattle.execution.proofs.Chain.{commands_in, all_in, all_in_both, after_both, octets_both, entries_both}
-use Rattle.execution.proofs.Chain.{entries_front}
+use Rattle.execution.proofs.Chain.{entries_front, IsNote}
 use Rattle.execution.proofs.Chain.{Cut, cut_at, AreGood, good_front, good_last, good_push, IsSame, same_now}
 use Rattle.execution.proofs.Chain.{same_after, good_same}
 
 -- `old` are the entries in the store, and `new` those that must still be appended
-pub record OnGround (stored : List Waiting) (g : Past) (ws : List ℕ) (up : ℕ) (l : LedgerState) (store : List ℕ)
+pub record OnGround (stored : List Waiting) (g : Past) (ws : List ℕ) (up : List Bool) (l : LedgerState) (store : List ℕ)
     (given : List Waiting) : Type 0 where
   pub old : List Entry
   pub new : List Entry
@@ -34,9 +37,11 @@ pub record OnGround (stored : List Waiting) (g : Past) (ws : List ℕ) (up : ℕ
   pub same : IsSame l.state (after_entries (after_entries new_state old) new)
   pub safe : l.safe ≡ length stored
   pub given_is : given ≡ stored ++ all_in new
+  -- if nothing must be stored before a report, only notes of reports are to be stored
+  pub notes : l.due ≡ false → AllByRecursion IsNote new
 
 -- the state after all entries
-pub state_good : (stored : List Waiting) (g : Past) (ws : List ℕ) (up : ℕ) (l : LedgerState) (store : List ℕ)
+pub state_good : (stored : List Waiting) (g : Past) (ws : List ℕ) (up : List Bool) (l : LedgerState) (store : List ℕ)
     (given : List Waiting) (h : OnGround stored g ws up l store given)
     → Good stored g ws up given (after_entries (after_entries new_state h.old) h.new)
 state_good stored g ws up l store given h =
@@ -47,7 +52,7 @@ pub back : (s t : State) → IsSame s t → IsSame t s
 back s t h = record { live = t.live; is = sym (ap (λ (x : State). record x { live = t.live }) h.is) }
 
 -- the ledger's own state
-pub ledger_good : (stored : List Waiting) (g : Past) (ws : List ℕ) (up : ℕ) (l : LedgerState) (store : List ℕ)
+pub ledger_good : (stored : List Waiting) (g : Past) (ws : List ℕ) (up : List Bool) (l : LedgerState) (store : List ℕ)
     (given : List Waiting) → OnGround stored g ws up l store given → Good stored g ws up given l.state
 ledger_good stored g ws up l store given h =
     let t : State = after_entries (after_entries new_state h.old) h.new in
@@ -71,8 +76,24 @@ follows_same s t (Rebuilds order) h = refl
 follows_same s t Tells h = refl
 follows_same s t (Stands standing) h = refl
 
+neither : (a b : Bool) → (a || b) ≡ false → (a ≡ false) × (b ≡ false)
+neither true b e = absurd cc
+neither false b e = (refl, e)
+
+note_of : (e : Entry) → is_due e ≡ false → IsNote e
+note_of (Gives tag on_map packet) f = absurd cc
+note_of (Hears kept) f = absurd cc
+note_of (Loses mark) f = absurd cc
+note_of (Rebuilds order) f = absurd cc
+note_of Tells f = refl
+note_of (Stands standing) f = absurd cc
+
+all_push : (es : List Entry) (e : Entry) → AllByRecursion IsNote es → IsNote e → AllByRecursion IsNote (es ++ e ∷ [])
+all_push [] e are is = (is, tt)
+all_push (x ∷ es) e are is = (are.0, all_push es e are.1 is)
+
 -- `after` holds the ledger's state after the entry
-pub on_append : (stored : List Waiting) (g : Past) (ws : List ℕ) (up : ℕ) (l : LedgerState) (store : List ℕ)
+pub on_append : (stored : List Waiting) (g : Past) (ws : List ℕ) (up : List Bool) (l : LedgerState) (store : List ℕ)
     (given all : List Waiting) (e : Entry) → follows l.state e ≡ true → IsFitting e → all ≡ given ++ commands_in e
     → Good stored g ws up all (after_entry l.state e) → OnGround stored g ws up l store given
     → OnGround stored g ws up (appended l e) store all
@@ -99,6 +120,10 @@ on_append stored g ws up l store given all e may fits is last h =
       given_is =
           more ∙ append_assoc stored (all_in h.new) (commands_in e)
           ∙ ap (λ (cs : List Waiting). stored ++ cs) (one_given e h.new);
+      notes =
+          λ f.
+          let parts = neither l.due (is_due e) f in
+          all_push h.new e (h.notes parts.0) (note_of e parts.1);
     }
 
 -- ---- what must be stored is stored
@@ -119,7 +144,7 @@ pub stores_all : (l : LedgerState) → StoresAll l.unstored (next_of l)
 stores_all l = stores_by l.due l.unstored (slice_get l.state.tells 0)
 
 -- the first entries of those that must be appended are in the store, and the others are lost
-pub on_open : (stored : List Waiting) (g : Past) (ws : List ℕ) (up : ℕ) (l m : LedgerState) (store now : List ℕ)
+pub on_open : (stored : List Waiting) (g : Past) (ws : List ℕ) (up : List Bool) (l m : LedgerState) (store now : List ℕ)
     (given all : List Waiting) (before after : List Entry) (h : OnGround stored g ws up l store given)
     → h.new ≡ before ++ after → all ≡ stored ++ all_in before → now ≡ store ++ store_octets before
     → IsSame m.state (after_entries new_state (h.old ++ before)) → m.unstored ≡ [] → m.safe ≡ highest m.state
@@ -148,9 +173,10 @@ on_open stored g ws up l m store now given all before after h split is octets sa
       same = same;
       safe = safe ∙ high ∙ good_highest all g ws up all t good;
       given_is = sym (append-nil all);
+      notes = λ f. tt;
     }
 
-pub on_stored : (stored : List Waiting) (g : Past) (ws : List ℕ) (up : ℕ) (l : LedgerState) (store : List ℕ)
+pub on_stored : (stored : List Waiting) (g : Past) (ws : List ℕ) (up : List Bool) (l : LedgerState) (store : List ℕ)
     (given : List Waiting) → OnGround stored g ws up l store given
     → OnGround given g ws up (all_stored l) (store ++ l.unstored) given
 on_stored stored g ws up l store given h =
@@ -160,13 +186,13 @@ on_stored stored g ws up l store given h =
 
 -- ---- the store is opened again
 
-pub record Opened (g : Past) (ws : List ℕ) (up : ℕ) (stored : List Waiting) (max_packet : ℕ) (octets : List ℕ)
+pub record Opened (g : Past) (ws : List ℕ) (up : List Bool) (stored : List Waiting) (max_packet : ℕ) (octets : List ℕ)
     (all : Reading) (given : List Waiting) : Type 0 where
   pub more : List Waiting
   pub holds : OnGround (stored ++ more) g ws up (opened max_packet all) (take all.good octets)
       (take (highest all.state) given)
 
-pub on_crash : (stored : List Waiting) (g : Past) (ws : List ℕ) (up : ℕ) (l : LedgerState) (store : List ℕ)
+pub on_crash : (stored : List Waiting) (g : Past) (ws : List ℕ) (up : List Bool) (l : LedgerState) (store : List ℕ)
     (given : List Waiting) (max_packet n : ℕ) → OnGround stored g ws up l store given
     → let octets = store ++ take n l.unstored in
     Opened g ws up stored max_packet octets (read_on (length octets) (reading new_state 0) octets) given

@@ -1,6 +1,7 @@
 pub mod Lists
 pub mod Records
 pub mod Held
+pub mod Tells
 pub mod Good
 pub mod Chain
 pub mod Keeping

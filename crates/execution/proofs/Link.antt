@@ -23,7 +23,8 @@ use Rattle.execution.specs.Execution.{IsGiven}
 use Rattle.execution.proofs.Lists.{get_append, get_low, contents, contents_at, contents_both, all_more}
 use Rattle.execution.proofs.Records.{HasRecords, records_more, Reports, IsFit, fit_more}
 use Rattle.execution.proofs.Held.{HasHeld, held_more}
-use Rattle.execution.proofs.Good.{Past, IsMore}
+use Rattle.execution.proofs.Tells.{Past}
+use Rattle.execution.proofs.Good.{IsMore}
 use Rattle.execution.proofs.Own.{IsOwnBoard, IsNoRebuild, own_stored}
 
 -- ---- a pair that some deeds lead to

@@ -25,7 +25,8 @@ use Rattle.execution.specs.Execution.{IsGiven}
 use Rattle.execution.proofs.Lists.{get_low}
 use Rattle.execution.proofs.Records.{HasRecords, RecordsAt, SameAt, IsFit, fit_begun, fit_executed, fit_more}
 use Rattle.execution.proofs.Records.{reach_begun, reach_not_begun, records_more, fit_counted, started_fit}
-use Rattle.execution.proofs.Good.{Past, Good}
+use Rattle.execution.proofs.Tells.{Past}
+use Rattle.execution.proofs.Good.{Good}
 
 -- ---- histories
 
@@ -343,7 +344,7 @@ agreeing stored rest all cs below e k goes is low first up most one two =
     (le-leb n (below + length cs) within)
     (eq-eqb (history_over e.history (drop (a - below) (take (n - below) cs))) k.history history)
 
-pub own_agrees : (stored : List Waiting) (g : Past) (ws : List ℕ) (up : ℕ) (all : List Waiting) (s : State)
+pub own_agrees : (stored : List Waiting) (g : Past) (ws : List ℕ) (up : List Bool) (all : List Waiting) (s : State)
     (b : Board) (kept : Record) → g.quiet ≡ true → Good stored g ws up all s → IsOwnBoard stored g.said g.directed b
     → IsAmong kept g.said → IsFit (length stored) kept → is_news s.standing.board kept ≡ true
     → (agrees s.standing.below s.commands s.standing.board kept ≡ true) × (s.standing.below ≤ kept.last)

@@ -3,6 +3,7 @@ use Rattle.std.proofs.Common.{◌≡◌, ℕ, ◌+◌, ◌-◌, List, [], ◌∷
 use Rattle.std.proofs.Common.{refl, sym, ◌∙◌, ap, subst, arith, drop, length-drop, append-nil}
 use Rattle.std.proofs.Common.{true, eqb-true}
 use Rattle.std.specs.Prelude.{◌&&◌, ◌==◌, not, is_none, slice_get}
+use Rattle.std.proofs.Common.{Bool}
 use Rattle.command_log.proofs.Steps.{both}
 use Rattle.command_ledger.specs.declared.known.Standing.{Standing}
 use Rattle.command_ledger.specs.declared.state.Tell.{Tell}
@@ -13,7 +14,8 @@ use Rattle.command_ledger.specs.Entries.{spelling}
 use Rattle.command_ledger.specs.Ledger.{LedgerState, is_at_rest, fresh_octets}
 use Rattle.command_ledger.specs.Kept.{IsStanding, after_entries, store_octets}
 use Rattle.execution.proofs.Lists.{ArePackets, packets_drop}
-use Rattle.execution.proofs.Good.{Past, Good}
+use Rattle.execution.proofs.Tells.{Past}
+use Rattle.execution.proofs.Good.{Good}
 use Rattle.execution.proofs.Chain.{all_in, IsSame, good_same, given_entries, given_octets, given_again}
 use Rattle.execution.proofs.Chain.{given_after}
 use Rattle.execution.proofs.Keeping.{OnGround, ledger_good, back}
@@ -35,7 +37,7 @@ trans : (s t u : State) → IsSame s t → IsSame t u → IsSame s u
 trans s t u one two =
     record { live = one.live; is = one.is ∙ ap (λ (x : State). record x { live = one.live }) two.is }
 
-pub on_renewed : (stored : List Waiting) (g : Past) (ws : List ℕ) (up : ℕ) (l : LedgerState) (store : List ℕ)
+pub on_renewed : (stored : List Waiting) (g : Past) (ws : List ℕ) (up : List Bool) (l : LedgerState) (store : List ℕ)
     (given : List Waiting) (count : ℕ) → is_at_rest l ≡ true → OnGround stored g ws up l store given
     → OnGround stored g ws up (record l { stored = count }) (fresh_octets l.state) given
 on_renewed stored g ws up l store given count rests h =
@@ -87,4 +89,5 @@ on_renewed stored g ws up l store given count rests h =
       same = same;
       safe = h.safe;
       given_is = all ∙ sym (append-nil stored);
+      notes = λ f. tt;
     }

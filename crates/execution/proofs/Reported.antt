@@ -1,6 +1,7 @@
 -- The reports that were made stay true.
 use Rattle.std.proofs.Common.{◌≡◌, ℕ, ◌+◌, ◌-◌, ◌<◌, ◌≤◌, min, max, inl, inr, List, [], ◌∷◌, ◌++◌, length}
 use Rattle.std.proofs.Common.{refl, sym, ◌∙◌, ap, subst, arith, append_assoc, Some}
+use Rattle.std.proofs.Common.{Bool, true, false}
 use Rattle.std.specs.Prelude.{⊤, ◌^◌, slice_get}
 use Rattle.std.specs.List.{AllByRecursion}
 use Rattle.command_log.specs.declared.record.Record.{Record}
@@ -23,30 +24,34 @@ use Rattle.execution.specs.System.{System, Report}
 use Rattle.execution.specs.Execution.{BeginsNoMore, IsNext, IsTrue, AreTrue}
 use Rattle.execution.proofs.Lists.{get_append}
 use Rattle.execution.proofs.Records.{IsFit, RecordsAt}
-use Rattle.execution.proofs.Good.{Past, HasTag, IsPassed, tag_more, AreTells, up_after}
+use Rattle.execution.proofs.Tells.{Past, HasTag, IsPassed, tag_more, AreTells, up_after, pushed_is}
 use Rattle.execution.proofs.Link.{OnLink, pair_of, reached_step, reached_so}
 
--- the index of the command, and the highest reported number after this report
-pub record IsAt (stored : List Waiting) (before after tag place : ℕ) : Type 0 where
+-- the index of the command, the way in which it is reported, and the highest reported number after
+-- this report
+pub record IsAt (stored : List Waiting) (up : List Bool) (executed : Bool) (before after tag place : ℕ)
+    : Type 0 where
   pub has : HasTag stored place tag
+  pub fate : slice_get up place ≡ Some executed
   pub in_order : place ≤ before
   pub after_is : after ≡ max before (place + 1)
 
-abbrev pub IsMade : List Waiting → List Record → List ℕ → List (List ℕ) → (before after : ℕ) → List (List ℕ) → Tell
-    → Type 0
-IsMade stored said ws packets before after begun (Executed tag) =
-    (place : ℕ) × IsAt stored before after tag place × IsAmong (place + 1) ws
-IsMade stored said ws packets before after begun (Unknown tag) =
-    (place : ℕ) × IsAt stored before after tag place × IsPassed said (place + 1)
+abbrev pub IsMade : List Waiting → List Record → List ℕ → List (List ℕ) → List Bool → (before after : ℕ)
+    → List (List ℕ) → Tell → Type 0
+IsMade stored said ws packets up before after begun (Executed tag) =
+    (place : ℕ) × IsAt stored up true before after tag place × IsAmong (place + 1) ws
+IsMade stored said ws packets up before after begun (Unknown tag) =
+    (place : ℕ) × IsAt stored up false before after tag place × IsPassed said (place + 1)
     × BeginsNoMore (place + 1) begun packets
-IsMade stored said ws packets before after begun (Restarted boot) = after ≡ before
-IsMade stored said ws packets before after begun (RecordLost mark) = after ≡ before
-IsMade stored said ws packets before after begun (Foreign first last) = after ≡ before
+IsMade stored said ws packets up before after begun (Restarted boot) = after ≡ before
+IsMade stored said ws packets up before after begun (RecordLost mark) = after ≡ before
+IsMade stored said ws packets up before after begun (Foreign first last) = after ≡ before
 
-abbrev pub AreMade : List Waiting → List Record → List ℕ → List (List ℕ) → ℕ → List Report → Type 0
-AreMade stored said ws packets after [] = after ≡ 0
-AreMade stored said ws packets after (r ∷ rs) =
-    (before : ℕ) × IsMade stored said ws packets before after r.begun r.tell × AreMade stored said ws packets before rs
+abbrev pub AreMade : List Waiting → List Record → List ℕ → List (List ℕ) → List Bool → ℕ → List Report → Type 0
+AreMade stored said ws packets up after [] = after ≡ 0
+AreMade stored said ws packets up after (r ∷ rs) =
+    (before : ℕ) × IsMade stored said ws packets up before after r.begun r.tell
+    × AreMade stored said ws packets up before rs
 
 -- ---- what begins later
 
@@ -81,48 +86,64 @@ begins_no_more said ws vs packets after begun n grows passed is = (
       (above_all n passed.kept said grows.more passed.passed passed.among grows.above) is.2,
 )
 
-pub at_more : (stored more : List Waiting) (before after tag place : ℕ) → IsAt stored before after tag place
-    → IsAt (stored ++ more) before after tag place
-at_more stored more before after tag place is =
-    record { has = tag_more stored more place tag is.has; in_order = is.in_order; after_is = is.after_is }
+-- earlier reports stay
+abbrev pub Extends : (up later : List Bool) → Type 0
+Extends up later = (i : ℕ) (b : Bool) → slice_get up i ≡ Some b → slice_get later i ≡ Some b
 
-made_more : (stored rest : List Waiting) (said news : List Record) (ws vs : List ℕ) (packets later : List (List ℕ))
-    (before after : ℕ) (begun : List (List ℕ)) (tell : Tell) → ((r : Record) → IsAmong r said → IsAmong r news)
-    → Grows said ws vs packets later → IsMade stored said ws packets before after begun tell
-    → IsMade (stored ++ rest) news vs later before after begun tell
-made_more stored rest said news ws vs packets later before after begun (Executed tag) told grows is =
-    (is.0, at_more stored rest before after tag is.0 is.1, grows.whole (is.0 + 1) is.2)
-made_more stored rest said news ws vs packets later before after begun (Unknown tag) told grows is =
+at_more : (stored more : List Waiting) (up later : List Bool) (executed : Bool) (before after tag place : ℕ)
+    → Extends up later → IsAt stored up executed before after tag place
+    → IsAt (stored ++ more) later executed before after tag place
+at_more stored more up later executed before after tag place stays is =
+    record {
+      has = tag_more stored more place tag is.has;
+      fate = stays place executed is.fate;
+      in_order = is.in_order;
+      after_is = is.after_is;
+    }
+
+made_more : (stored rest : List Waiting) (said news : List Record) (ws vs : List ℕ) (packets now : List (List ℕ))
+    (up later : List Bool) (before after : ℕ) (begun : List (List ℕ)) (tell : Tell)
+    → ((r : Record) → IsAmong r said → IsAmong r news) → Extends up later → Grows said ws vs packets now
+    → IsMade stored said ws packets up before after begun tell
+    → IsMade (stored ++ rest) news vs now later before after begun tell
+made_more stored rest said news ws vs packets now up later before after begun (Executed tag) told stays grows is =
+    (is.0, at_more stored rest up later true before after tag is.0 stays is.1, grows.whole (is.0 + 1) is.2)
+made_more stored rest said news ws vs packets now up later before after begun (Unknown tag) told stays grows is =
     let passed = is.2 in (
       is.0,
-      at_more stored rest before after tag is.0 is.1,
+      at_more stored rest up later false before after tag is.0 stays is.1,
       record { kept = passed.kept; among = told passed.kept passed.among; passed = passed.passed },
-      begins_no_more said ws vs packets later begun (is.0 + 1) grows passed is.3,
+      begins_no_more said ws vs packets now begun (is.0 + 1) grows passed is.3,
     )
-made_more stored rest said news ws vs packets later before after begun (Restarted boot) told grows is = is
-made_more stored rest said news ws vs packets later before after begun (RecordLost mark) told grows is = is
-made_more stored rest said news ws vs packets later before after begun (Foreign first last) told grows is = is
+made_more stored rest said news ws vs packets now up later before after begun (Restarted boot) told stays grows is = is
+made_more stored rest said news ws vs packets now up later before after begun (RecordLost mark) told stays grows is =
+    is
+made_more stored rest said news ws vs packets now up later before after begun (Foreign first last) told stays grows
+    is = is
 
 pub all_made_more : (stored rest : List Waiting) (said news : List Record) (ws vs : List ℕ)
-    (packets later : List (List ℕ)) (after : ℕ) (rs : List Report) → ((r : Record) → IsAmong r said → IsAmong r news)
-    → Grows said ws vs packets later → AreMade stored said ws packets after rs
-    → AreMade (stored ++ rest) news vs later after rs
-all_made_more stored rest said news ws vs packets later after [] told grows are = are
-all_made_more stored rest said news ws vs packets later after (r ∷ rs) told grows are = (
+    (packets now : List (List ℕ)) (up later : List Bool) (after : ℕ) (rs : List Report)
+    → ((r : Record) → IsAmong r said → IsAmong r news) → Extends up later → Grows said ws vs packets now
+    → AreMade stored said ws packets up after rs → AreMade (stored ++ rest) news vs now later after rs
+all_made_more stored rest said news ws vs packets now up later after [] told stays grows are = are
+all_made_more stored rest said news ws vs packets now up later after (r ∷ rs) told stays grows are = (
   are.0,
-  made_more stored rest said news ws vs packets later are.0 after r.begun r.tell told grows are.1,
-  all_made_more stored rest said news ws vs packets later are.0 rs told grows are.2,
+  made_more stored rest said news ws vs packets now up later are.0 after r.begun r.tell told stays grows are.1,
+  all_made_more stored rest said news ws vs packets now up later are.0 rs told stays grows are.2,
 )
 
 -- ---- a report that is made now
 
-pub made_now : (stored : List Waiting) (g : Past) (ws : List ℕ) (packets : List (List ℕ)) (up n m : ℕ) (tell : Tell)
-    (ts : List Tell) → n ≤ up → AreTells stored g ws n m (tell ∷ ts)
-    → IsMade stored g.said ws packets up (up_after up n (tell ∷ ts)) packets tell
+pub made_now : (stored : List Waiting) (g : Past) (ws : List ℕ) (packets : List (List ℕ)) (up : List Bool) (n m : ℕ)
+    (tell : Tell) (ts : List Tell) → n ≤ length up → AreTells stored g ws up n m (tell ∷ ts)
+    → IsMade stored g.said ws packets (up_after up n (tell ∷ ts)) (length up) (length (up_after up n (tell ∷ ts)))
+    packets tell
 made_now stored g ws packets up n m (Executed tag) ts low are =
-    (n, record { has = are.0; in_order = low; after_is = refl }, are.1)
+    let is = pushed_is up n true low in
+    (n, record { has = are.0; fate = is.now are.2; in_order = low; after_is = is.long }, are.1)
 made_now stored g ws packets up n m (Unknown tag) ts low are =
-    (n, record { has = are.0; in_order = low; after_is = refl }, are.1, ([], refl, tt))
+    let is = pushed_is up n false low in
+    (n, record { has = are.0; fate = is.now are.2; in_order = low; after_is = is.long }, are.1, ([], refl, tt))
 made_now stored g ws packets up n m (Restarted boot) ts low are = refl
 made_now stored g ws packets up n m (RecordLost mark) ts low are = refl
 made_now stored g ws packets up n m (Foreign first last) ts low are = refl
@@ -241,9 +262,10 @@ happens_grows stored g packets orders sent b event h =
 
 -- ---- the guarantee
 
-next_of_at : (s : System) (stored rest : List Waiting) (before after tag place : ℕ) → s.given ≡ stored ++ rest
-    → IsAt stored before after tag place → IsNext s before after tag (place + 1)
-next_of_at s stored rest before after tag place e is =
+next_of_at : (s : System) (stored rest : List Waiting) (up : List Bool) (executed : Bool) (before after tag place : ℕ)
+    → s.given ≡ stored ++ rest → IsAt stored up executed before after tag place
+    → IsNext s up executed before after tag (place + 1)
+next_of_at s stored rest up executed before after tag place e is =
     let there : slice_get s.given place ≡ Some is.has.command =
     subst (λ (cs : List Waiting). slice_get cs place ≡ Some is.has.command) (sym e)
     (get_append stored rest place is.has.command is.has.there) in
@@ -256,26 +278,29 @@ next_of_at s stored rest before after tag place e is =
         subst (λ (n : ℕ). slice_get s.given n ≡ Some is.has.command) same there,
       );
       tagged = is.has.tagged;
+      fate = subst (λ (n : ℕ). slice_get up n ≡ Some executed) same is.fate;
       in_order = omega (arith, low);
       then = is.after_is;
     }
 
-pub true_one : (s : System) (stored rest : List Waiting) (said : List Record) (before after : ℕ)
+true_one : (s : System) (stored rest : List Waiting) (said : List Record) (up : List Bool) (before after : ℕ)
     (begun : List (List ℕ)) (tell : Tell) → s.given ≡ stored ++ rest
-    → IsMade stored said s.board.whole s.board.packets before after begun tell → IsTrue s before after begun tell
-true_one s stored rest said before after begun (Executed tag) e is =
-    (is.0 + 1, next_of_at s stored rest before after tag is.0 e is.1, is.2)
-true_one s stored rest said before after begun (Unknown tag) e is =
-    (is.0 + 1, next_of_at s stored rest before after tag is.0 e is.1, is.3)
-true_one s stored rest said before after begun (Restarted boot) e is = is
-true_one s stored rest said before after begun (RecordLost mark) e is = is
-true_one s stored rest said before after begun (Foreign first last) e is = is
+    → IsMade stored said s.board.whole s.board.packets up before after begun tell
+    → IsTrue s up before after begun tell
+true_one s stored rest said up before after begun (Executed tag) e is =
+    (is.0 + 1, next_of_at s stored rest up true before after tag is.0 e is.1, is.2)
+true_one s stored rest said up before after begun (Unknown tag) e is =
+    (is.0 + 1, next_of_at s stored rest up false before after tag is.0 e is.1, is.3)
+true_one s stored rest said up before after begun (Restarted boot) e is = is
+true_one s stored rest said up before after begun (RecordLost mark) e is = is
+true_one s stored rest said up before after begun (Foreign first last) e is = is
 
-pub all_true : (s : System) (stored rest : List Waiting) (said : List Record) (after : ℕ) (rs : List Report)
-    → s.given ≡ stored ++ rest → AreMade stored said s.board.whole s.board.packets after rs → AreTrue s after rs
-all_true s stored rest said after [] e are = are
-all_true s stored rest said after (r ∷ rs) e are = (
+pub all_true : (s : System) (stored rest : List Waiting) (said : List Record) (up : List Bool) (after : ℕ)
+    (rs : List Report) → s.given ≡ stored ++ rest → AreMade stored said s.board.whole s.board.packets up after rs
+    → AreTrue s up after rs
+all_true s stored rest said up after [] e are = are
+all_true s stored rest said up after (r ∷ rs) e are = (
   are.0,
-  true_one s stored rest said are.0 after r.begun r.tell e are.1,
-  all_true s stored rest said are.0 rs e are.2,
+  true_one s stored rest said up are.0 after r.begun r.tell e are.1,
+  all_true s stored rest said up are.0 rs e are.2,
 )

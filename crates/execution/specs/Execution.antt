@@ -1,6 +1,6 @@
 -- What is executed, and what is reported of it, over any link.
 use Rattle.std.specs.Prelude.{◌≡◌, ⊤, ℕ, ◌+◌, ◌-◌, ◌<◌, ◌≤◌, ◌^◌, max, List, [], ◌∷◌, ◌++◌, true}
-use Rattle.std.specs.Prelude.{Some, Ok, slice_get, drop}
+use Rattle.std.specs.Prelude.{Some, Ok, slice_get, drop, length, Bool, false}
 use Rattle.std.specs.List.{AllByRecursion}
 use Rattle.command_log.specs.declared.packets.Order.{Order}
 use Rattle.command_log.specs.declared.record.Record.{Record}
@@ -69,11 +69,14 @@ HasNumber given n c = (0 < n) × (slice_get given (n - 1) ≡ Some c)
 abbrev pub IsGiven : List Waiting → List ℕ → Type 0
 IsGiven given packet = (c : Waiting) × HasNumber given (number_in packet) c × (c.packet ≡ packet)
 
--- the number is that of a command with this tag, and each number below it was reported before
-pub record IsNext (s : System) (before after tag n : ℕ) : Type 0 where
+-- The number is that of a command with this tag, which is reported in this way, and each number
+-- below it was reported before. `fates` has for each number whether it was reported as executed.
+pub record IsNext (s : System) (fates : List Bool) (executed : Bool) (before after tag n : ℕ)
+    : Type 0 where
   pub command : Waiting
   pub there : HasNumber s.given n command
   pub tagged : command.tag ≡ tag
+  pub fate : slice_get fates (n - 1) ≡ Some executed
   pub in_order : n ≤ before + 1
   pub then : after ≡ max before n
 
@@ -84,19 +87,20 @@ BeginsNoMore n then now =
     × AllByRecursion (λ packet. n < number_in packet) more
 
 -- A report is true. `before` and `after` are the highest reported numbers before it and after it.
-abbrev pub IsTrue : System → (before after : ℕ) → (begun : List (List ℕ)) → Tell → Type 0
-IsTrue s before after begun (Executed tag) =
-    (n : ℕ) × IsNext s before after tag n × IsAmong n s.board.whole
-IsTrue s before after begun (Unknown tag) =
-    (n : ℕ) × IsNext s before after tag n × BeginsNoMore n begun s.board.packets
-IsTrue s before after begun (Restarted boot) = after ≡ before
-IsTrue s before after begun (RecordLost mark) = after ≡ before
-IsTrue s before after begun (Foreign first last) = after ≡ before
+abbrev pub IsTrue : System → List Bool → (before after : ℕ) → (begun : List (List ℕ)) → Tell
+    → Type 0
+IsTrue s fates before after begun (Executed tag) =
+    (n : ℕ) × IsNext s fates true before after tag n × IsAmong n s.board.whole
+IsTrue s fates before after begun (Unknown tag) =
+    (n : ℕ) × IsNext s fates false before after tag n × BeginsNoMore n begun s.board.packets
+IsTrue s fates before after begun (Restarted boot) = after ≡ before
+IsTrue s fates before after begun (RecordLost mark) = after ≡ before
+IsTrue s fates before after begun (Foreign first last) = after ≡ before
 
-abbrev pub AreTrue : System → ℕ → List Report → Type 0
-AreTrue s after [] = after ≡ 0
-AreTrue s after (r ∷ rs) =
-    (before : ℕ) × IsTrue s before after r.begun r.tell × AreTrue s before rs
+abbrev pub AreTrue : System → List Bool → ℕ → List Report → Type 0
+AreTrue s fates after [] = after ≡ 0
+AreTrue s fates after (r ∷ rs) =
+    (before : ℕ) × IsTrue s fates before after r.begun r.tell × AreTrue s fates before rs
 
 pub record IsCarriedOut (s : System) : Type 0 where
   -- the commands whose execution began were given, and began once each, in order
@@ -108,10 +112,10 @@ pub record IsCarriedOut (s : System) : Type 0 where
       → IsAmong n s.board.whole
   pub whole : (n : ℕ) → IsAmong n s.board.whole
       → (packet : List ℕ) × IsAmong packet s.board.packets × (number_in packet ≡ n)
-  -- Each report is true. If no report is due, each command up to `below` was reported, and the
-  -- ledger has all others.
-  pub told : (highest : ℕ) × AreTrue s highest s.told
-      × (s.ledger.state.tells ≡ [] → s.ledger.state.standing.below ≤ highest)
+  -- Each report is true, and no command is reported in two ways. If no report is due, each command
+  -- up to `below` was reported, and the ledger has all others.
+  pub told : (fates : List Bool) × AreTrue s fates (length fates) s.told
+      × (s.ledger.state.tells ≡ [] → s.ledger.state.standing.below ≤ length fates)
   pub held : s.ledger.state.commands ≡ drop s.ledger.state.standing.below s.given
 
 abbrev pub EachSystemCarriesOut : Type 0

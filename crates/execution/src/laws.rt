@@ -7,7 +7,8 @@ ghost use Rattle.execution.specs.Own.{EachCommandIsOwn};
 /// whatever the link does to packets, orders and statuses, and whenever the board restarts or the ground
 /// program ends and opens its store again. Each report is true: a command that the ground reports as executed
 /// was executed completely, one that it reports as unknown does not begin later, and no command is reported
-/// before those with lower numbers, or dropped without a report. This holds under the assumptions `AreOwed`.
+/// in two ways, before those with lower numbers, or dropped without a report. This holds under the
+/// assumptions `AreOwed`.
 pub fn law_of_execution()
     ensures { EachSystemCarriesOut }
 {}
