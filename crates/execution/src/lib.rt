@@ -3,5 +3,7 @@
 #![tactic(auto)]
 
 mod laws;
+#[cfg(test)]
+mod tests;
 
 pub use laws::{law_of_execution, law_of_own_commands};
