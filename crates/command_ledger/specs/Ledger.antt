@@ -18,7 +18,7 @@ use Rattle.command_ledger.specs.declared.state.Tell.{Tell}
 use Rattle.command_ledger.specs.declared.ledger.Next.{Next}
 use Rattle.command_ledger.specs.declared.ledger.Next.TheVariants as nexts
 use Rattle.command_ledger.specs.Waiting.{Waiting}
-use Rattle.command_ledger.specs.Known.{reach, is_news}
+use Rattle.command_ledger.specs.Known.{reach, is_news, has_told}
 use Rattle.command_ledger.specs.State.{State, Entry, Gives, Hears, Loses, Rebuilds, Tells, Stands}
 use Rattle.command_ledger.specs.State.{highest, after_entry}
 use Rattle.command_ledger.specs.Entries.{spelling}
@@ -96,14 +96,10 @@ abbrev pub status_fault : LogFault → LedgerFault
 status_fault log_faults.Layout = faults.Layout
 status_fault fault = faults.Check
 
-abbrev pub has_told : Option ℕ → ℕ → Bool
-has_told None mark = false
-has_told (Some told) mark = told == mark
-
 -- the entry for what a status shows that was not known
 abbrev pub news : LedgerState → Status → Option Entry
 news l (statuses.Says kept) =
-    if is_news l.state.standing.board kept then Some (Hears kept) else None
+    if is_news l.state.standing kept then Some (Hears kept) else None
 news l statuses.Changes = None
 news l statuses.Starts = None
 news l (statuses.Lost mark) =

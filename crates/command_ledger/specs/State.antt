@@ -97,6 +97,11 @@ foreign agree board kept =
 abbrev pub doubt_after : Bool → Standing → Record → ℕ
 doubt_after agree known kept = if agree then known.doubt else max known.doubt (reach kept)
 
+-- The mark that is kept after a record. If the record ends a loss that no order has ended, the mark
+-- is forgotten: the record may be older than the loss, which is then told again.
+abbrev pub mark_after : Standing → Option ℕ
+mark_after known = if known.is_lost then None else known.mark
+
 -- the knowledge after a record is accepted
 abbrev pub heard_standing : (below : ℕ) → Bool → Standing → Record → Standing
 heard_standing below agree known kept =
@@ -104,7 +109,7 @@ heard_standing below agree known kept =
       below = below;
       board = kept;
       doubt = doubt_after agree known kept;
-      mark = known.mark;
+      mark = mark_after known;
       is_lost = false;
       order = known.order;
     }

@@ -9,7 +9,7 @@ ghost use Rattle.command_ledger.specs.Ledger.{status_fault, fresh_octets};
 use crate::entry::{Written, spelling};
 use crate::fault::LedgerFault;
 use crate::given::Given;
-use crate::known::{Rebuild, is_news, reach};
+use crate::known::{Rebuild, has_told, is_news, reach};
 use crate::state::{State, Tell};
 use crate::store::read;
 use command_log::{Command, LogFault, Order, Record, Status, decode_status, encode_command};
@@ -61,7 +61,7 @@ impl Ledger {
     ghost use Rattle.command_ledger.specs.Waiting.{goes_up, sent_as};
     ghost use Rattle.command_ledger.specs.Entries.{entry_view, IsShort};
     ghost use Rattle.command_ledger.specs.Store.{reading, read_on};
-    ghost use Rattle.command_ledger.specs.Ledger.{opened, appended, appended_if, give_fault, given, packet_of, news, has_told, order_of, rebuild_of};
+    ghost use Rattle.command_ledger.specs.Ledger.{opened, appended, appended_if, give_fault, given, packet_of, news, order_of, rebuild_of};
     ghost use Rattle.command_ledger.specs.Ledger.{next_view, next_of, all_stored, is_worth, is_at_rest, fresh_octets, Says};
 
     /// Opens a ledger from the octets of its store; a new store has none. Also returns how many of the octets
@@ -235,7 +235,7 @@ impl Ledger {
         ensures err { OnErr result (self.new ≡ self.old) }
         ensures fault { IsOkUnless result LedgerFault.Memory }
     {
-        if !is_news(&self.state.standing().board, &kept) {
+        if !is_news(&self.state.standing(), &kept) {
             return Ok(());
         }
         self.append(&Written::Hears(kept))
@@ -246,19 +246,10 @@ impl Ledger {
         ensures err { OnErr result (self.new ≡ self.old) }
         ensures fault { IsOkUnless result LedgerFault.Memory }
     {
-        if self.has_told(mark) {
+        if has_told(self.state.standing().mark, mark) {
             return Ok(());
         }
         self.append(&Written::Loses(mark))
-    }
-
-    fn has_told(&self, mark: u32) -> bool
-        ensures { result ≡ has_told self.now.state.standing.mark mark }
-    {
-        match self.state.standing().mark {
-            Some(told) => told == mark,
-            None => false,
-        }
     }
 
     /// Returns the order to restart, for the last known boot count.
@@ -309,7 +300,7 @@ impl Ledger {
     }
 
     /// Returns the order that brings a record, to be sent while the board has none. Returns `None` unless
-    /// `rebuild` was called since the loss, and the order is stored.
+    /// `rebuild` was called for this loss, and the order is stored.
     pub fn order(&self) -> Option<Order>
         ensures { result ≡ order_of self.now }
     {

@@ -2,7 +2,7 @@
 
 ghost use Rattle.std.specs.Prelude.{◌≡◌, ℕ, ◌+◌, ◌-◌, ◌<◌, ◌≤◌, ◌^◌, ◌++◌, length, take, drop, option_to_list};
 ghost use Rattle.std.specs.VecDeque.{deque_len, deque_capacity};
-ghost use Rattle.command_ledger.specs.State.{history_over, fate, fates, less, new_standing, restarted, foreign, heard_standing, passed, below_after};
+ghost use Rattle.command_ledger.specs.State.{history_over, fate, fates, less, new_standing, restarted, foreign, mark_after, heard_standing, passed, below_after};
 
 use crate::entry::Written;
 use crate::given::Given;
@@ -143,6 +143,13 @@ fn foreign(agree: bool, board: &Record, kept: &Record) -> Option<Tell>
     }
 }
 
+// The mark that is kept after a record: none if the record ends a loss that no order has ended.
+fn mark_after(known: &Standing) -> Option<u32>
+    ensures { result ≡ mark_after known.now }
+{
+    if known.is_lost { None } else { known.mark }
+}
+
 // The knowledge after this record is accepted.
 fn heard_standing(below: u32, agree: bool, known: &Standing, kept: &Record) -> Standing
     ensures { result ≡ heard_standing below agree known.now kept.now }
@@ -155,7 +162,7 @@ fn heard_standing(below: u32, agree: bool, known: &Standing, kept: &Record) -> S
         } else {
             known.doubt.max(reach(kept))
         },
-        mark: known.mark,
+        mark: mark_after(known),
         is_lost: false,
         order: known.order,
     }

@@ -1,7 +1,7 @@
-// Octets worked out by Python's struct and zlib, and the fate of one command.
+// Octets worked out by Python's struct and zlib, the fate of one command, and statuses that arrive late.
 
 use crate::*;
-use command_log::Order;
+use command_log::{Order, Status, encode_status};
 use std::alloc::Global;
 use std::fmt::Debug;
 use std::process::Abort;
@@ -165,6 +165,83 @@ fn a_record_is_lost(rt: HostRuntime) {
     tells(&rt, &mut ledger, Tell::Restarted(65536));
     tells(&rt, &mut ledger, Tell::Unknown(TAG));
     equal(&rt, &ledger.order(), &None);
+}
+
+// The loss is told and stored, and then the report of it.
+fn tells_the_loss(rt: &impl Abort, ledger: &mut Ledger) {
+    hears(rt, ledger, &LOST, Ok(()));
+    stores(rt, ledger, &LOSS);
+    tells(rt, ledger, Tell::RecordLost(0x1234_5678));
+    stores(rt, ledger, &TOLD);
+}
+
+#[test]
+fn a_record_from_before_the_loss_arrives_late(rt: HostRuntime) {
+    let mut ledger = with_command(&rt, rt.alloc());
+    tells_the_loss(&rt, &mut ledger);
+    equal(&rt, &ledger.rebuild(), &Ok(()));
+    stores(&rt, &mut ledger, &ORDERED);
+    let order = ledger.order();
+    equal(&rt, &order.is_some(), &true);
+    hears(&rt, &mut ledger, &SAYS, Ok(()));
+    stores(&rt, &mut ledger, &HEARD);
+    tells(&rt, &mut ledger, Tell::Restarted(1));
+    tells(&rt, &mut ledger, Tell::Executed(TAG));
+    ledger.stored(18);
+    equal(&rt, &ledger.order(), &None);
+    tells_the_loss(&rt, &mut ledger);
+    equal(&rt, &ledger.order(), &order);
+    equal(&rt, &ledger.rebuild(), &Ok(()));
+    rests(&rt, &ledger);
+    hears(&rt, &mut ledger, &BROUGHT, Ok(()));
+    ledger.stored(30);
+    tells(&rt, &mut ledger, Tell::Restarted(65536));
+    ledger.stored(9);
+    hears(&rt, &mut ledger, &LOST, Ok(()));
+    rests(&rt, &ledger);
+}
+
+#[test]
+fn a_loss_that_is_over_is_reported_late(rt: HostRuntime) {
+    let mut ledger = with_command(&rt, rt.alloc());
+    tells_the_loss(&rt, &mut ledger);
+    hears(&rt, &mut ledger, &SAYS, Ok(()));
+    stores(&rt, &mut ledger, &HEARD);
+    tells(&rt, &mut ledger, Tell::Restarted(1));
+    tells(&rt, &mut ledger, Tell::Executed(TAG));
+    ledger.stored(18);
+    hears(&rt, &mut ledger, &SAYS, Ok(()));
+    rests(&rt, &ledger);
+    tells_the_loss(&rt, &mut ledger);
+    hears(&rt, &mut ledger, &SAYS, Ok(()));
+    stores(&rt, &mut ledger, &HEARD);
+    rests(&rt, &ledger);
+    equal(&rt, &ledger.rebuild(), &Err(LedgerFault::NotLost));
+}
+
+// A second loss is told; only the lengths of its entries are compared.
+fn tells_the_second_loss(rt: &impl Abort, ledger: &mut Ledger) {
+    hears(rt, ledger, &encode_status(&Status::Lost(7), 0), Ok(()));
+    ledger.stored(13);
+    tells(rt, ledger, Tell::RecordLost(7));
+    ledger.stored(9);
+}
+
+#[test]
+fn a_record_shows_that_the_order_for_an_earlier_loss_was_obeyed(rt: HostRuntime) {
+    let mut ledger = with_command(&rt, rt.alloc());
+    tells_the_loss(&rt, &mut ledger);
+    equal(&rt, &ledger.rebuild(), &Ok(()));
+    stores(&rt, &mut ledger, &ORDERED);
+    tells_the_second_loss(&rt, &mut ledger);
+    hears(&rt, &mut ledger, &BROUGHT, Ok(()));
+    ledger.stored(30);
+    tells(&rt, &mut ledger, Tell::Restarted(65536));
+    tells(&rt, &mut ledger, Tell::Unknown(TAG));
+    ledger.stored(18);
+    equal(&rt, &ledger.rebuild(), &Err(LedgerFault::NotLost));
+    tells_the_second_loss(&rt, &mut ledger);
+    equal(&rt, &ledger.rebuild(), &Ok(()));
 }
 
 #[test]

@@ -26,10 +26,10 @@ use Rattle.command_ledger.specs.declared.known.Standing.{Standing}
 use Rattle.command_ledger.specs.declared.known.Rebuild.{Rebuild}
 use Rattle.command_ledger.specs.declared.state.Tell.{Tell}
 use Rattle.command_ledger.specs.Waiting.{Waiting, waiting}
-use Rattle.command_ledger.specs.Known.{reach, is_news}
+use Rattle.command_ledger.specs.Known.{reach, is_news, has_told}
 use Rattle.command_ledger.specs.State.{State, Entry, Gives, Hears, Loses, Rebuilds, Tells, highest, follows}
 use Rattle.command_ledger.specs.Ledger.{LedgerState, appended, appended_if, next_command, give_fault, packet_of, news}
-use Rattle.command_ledger.specs.Ledger.{has_told, boot_before, is_for, new_order, order_for, rebuild_of, order_of}
+use Rattle.command_ledger.specs.Ledger.{boot_before, is_for, new_order, order_for, rebuild_of, order_of}
 use Rattle.command_ledger.specs.Ledger.{order_of_mark, next_of, NextView, Stores, told_or_stored, rest_stored}
 use Rattle.command_ledger.specs.Ledger as views
 use Rattle.command_ledger.specs.Kept.{IsRebuild, IsOrder}
@@ -158,7 +158,7 @@ on_status stored g ws up l store given Starts said lost b own h = h
 on_status stored g ws up l store given (Says kept) said lost b own h =
     let is = said kept refl in
     let k = ledger_good stored g ws up l store given h in
-    on_some stored g ws up l store given (Hears kept) (is_news l.state.standing.board kept) h
+    on_some stored g ws up l store given (Hears kept) (is_news l.state.standing kept) h
     (λ news.
     on_append stored g ws up l store given given (Hears kept) refl is.1.range (sym (append-nil given))
     (good_hears stored g ws up given l.state kept is.0 is.1 is.2

@@ -5,7 +5,7 @@ use Rattle.std.proofs.Common.{append-nil}
 use Rattle.std.proofs.Common.{Some, None, Option, Bool, true, false, IfSome}
 use Rattle.std.proofs.lemmas.Bool.{le-ltb, cond_both}
 use Rattle.std.proofs.lemmas.List.{drop-drop, drop-append-le, length-take-le}
-use Rattle.std.specs.Prelude.{◌^◌, ◌&&◌, ◌==◌, nat_lt, nat_le, if◌then◌else◌, slice_get, option_to_list}
+use Rattle.std.specs.Prelude.{◌^◌, not, ◌&&◌, ◌==◌, nat_lt, nat_le, if◌then◌else◌, slice_get, option_to_list}
 use Rattle.std.proofs.Common.{◌⊎◌, inl, inr}
 use Rattle.std.specs.List.{AllByRecursion}
 use Rattle.command_log.specs.declared.record.Record.{Record}
@@ -18,7 +18,7 @@ use Rattle.command_ledger.specs.declared.known.Rebuild.{Rebuild}
 use Rattle.command_ledger.specs.declared.state.Tell.{Tell}
 use Rattle.command_ledger.specs.declared.state.Tell.TheVariants.{Executed, Unknown, Restarted, RecordLost, Foreign}
 use Rattle.command_ledger.specs.Waiting.{Waiting}
-use Rattle.command_ledger.specs.Known.{reach, is_marked, obeyed, obeyed_order}
+use Rattle.command_ledger.specs.Known.{reach, is_marked, has_told, obeyed, obeyed_order}
 use Rattle.command_ledger.specs.Kept.{IsMark, IsOrder, IsRebuild}
 use Rattle.command_ledger.specs.State.{State, Rebuilds, Tells, highest, after_entry}
 use Rattle.command_ledger.specs.State.{hears, heard, gives, loses, agrees, fates, passed, below_after, doubt_after}
@@ -107,7 +107,13 @@ obeyed_remembers g s kept (Some o) e h =
     let low = h.doubt in
     let small = is.last in
     cond_both (nat_le o.boot kept.boot)
-    (record s { board = no_commands o.boot o.last; doubt = max s.doubt o.last; order = None }) s (Remembers g)
+    (record s {
+      board = no_commands o.boot o.last;
+      doubt = max s.doubt o.last;
+      is_lost = s.is_lost && not (has_told s.mark o.mark);
+      order = None;
+    })
+    s (Remembers g)
     (λ t. record { doubt = omega (arith, low, small); mark = h.mark; lost = h.lost; order = tt; directed = tt })
     (λ f. h)
 
@@ -128,6 +134,12 @@ heard_doubt bound known kept false low is =
 below_is : (flag : Bool) (r n : ℕ) → flag ≡ false → (if flag then r else n) ≡ n
 below_is true r n e = absurd cc
 below_is false r n e = refl
+
+-- a mark that is kept was kept before
+marks_kept : (g : Past) (lost : Bool) (mark : Option ℕ) → IsMark mark → IfSome mark (λ m. IsAmong m g.lost)
+    → IsMark (if lost then None else mark) × IfSome (if lost then None else mark) (λ m. IsAmong m g.lost)
+marks_kept g true mark is among = (tt, tt)
+marks_kept g false mark is among = (is, among)
 
 good_heard : (stored : List Waiting) (g : Past) (ws : List ℕ) (up : List Bool) (all : List Waiting) (s : State)
     (known : Standing) (kept : Record) (agree : Bool) → IsAmong kept g.said → IsFit (length stored) kept
@@ -172,6 +184,7 @@ good_heard stored g ws up all s known kept agree among fits knows remembers own 
     (foreign agree known.board kept)) _ second told)
     in
     let tells = tells_both stored g ws up h.start below (below + count) s.tells _ h.tells new in
+    let marks = marks_kept g known.is_lost known.mark remembers.mark remembers.lost in
     let commands : drop count s.commands ≡ drop (below + count) all =
     ap (drop count) h.commands ∙ drop-drop count below all in
     record {
@@ -185,8 +198,8 @@ good_heard stored g ws up all s known kept agree among fits knows remembers own 
       remembers =
           record {
             doubt = heard_doubt (length stored) known kept agree remembers.doubt fits;
-            mark = remembers.mark;
-            lost = remembers.lost;
+            mark = marks.0;
+            lost = marks.1;
             order = remembers.order;
             directed = remembers.directed;
           };

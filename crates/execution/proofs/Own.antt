@@ -1,7 +1,7 @@
 -- The board's history is that of the commands that were given, if no order brought a record.
 use Rattle.std.proofs.Common.{◌≡◌, ℕ, zero, suc, ◌+◌, ◌-◌, ◌*◌, ◌<◌, ◌≤◌, min, inl, inr, List, [], ◌∷◌, ◌++◌, length}
 use Rattle.std.proofs.Common.{refl, sym, ◌∙◌, ap, subst, arith, drop, take, length-append, length-drop, Some}
-use Rattle.std.proofs.Common.{Option, Bool, true, false, IfSome, eq-eqb, ltb-true, le-leb}
+use Rattle.std.proofs.Common.{Option, Bool, true, false, IfSome, eq-eqb, eqb-true, ltb-true, le-leb}
 use Rattle.std.proofs.lemmas.List.{drop-drop, take-take, take-append-drop, take-append-le, drop-take}
 use Rattle.std.specs.Prelude.{⊤, ◌^◌, ◌&&◌, ◌||◌, ◌==◌, nat_lt, nat_le, slice_get}
 use Rattle.command_log.specs.declared.record.Record.{Record}
@@ -19,7 +19,8 @@ use Rattle.command_log.specs.Board.{Board, IsAmong}
 use Rattle.command_log.proofs.Exact.{are_both}
 use Rattle.command_log.proofs.Steps.{no_other}
 use Rattle.command_ledger.specs.Waiting.{Waiting}
-use Rattle.command_ledger.specs.Known.{reach, progress, is_news}
+use Rattle.command_ledger.specs.declared.known.Standing.{Standing}
+use Rattle.command_ledger.specs.Known.{reach, progress, is_later, is_news}
 use Rattle.command_ledger.specs.State.{State, history_over, agrees}
 use Rattle.execution.specs.Execution.{IsGiven}
 use Rattle.execution.proofs.Lists.{get_low}
@@ -270,17 +271,31 @@ own_stored stored more said directed b fits h =
 
 -- ---- what the ledger hears agrees
 
-news_by : (a b c : Bool) (m n : ℕ) → (a || (b && c)) ≡ true → (a ≡ true → m ≤ n) → (c ≡ true → m < n) → m ≤ n
-news_by true b c m n e one two = one refl
-news_by false true true m n e one two = let low = two refl in omega (arith, low)
-news_by false true false m n e one two = absurd cc
-news_by false false c m n e one two = absurd cc
+later_by : (a b c : Bool) (m n : ℕ) → (a || (b && c)) ≡ true → (a ≡ true → m ≤ n) → (c ≡ true → m < n) → m ≤ n
+later_by true b c m n e one two = one refl
+later_by false true true m n e one two = let low = two refl in omega (arith, low)
+later_by false true false m n e one two = absurd cc
+later_by false false c m n e one two = absurd cc
 
-news_later : (e k : Record) → is_news e k ≡ true → (e.boot < k.boot → progress e ≤ progress k)
+later_record : (e k : Record) → is_later e k ≡ true → (e.boot < k.boot → progress e ≤ progress k)
     → progress e ≤ progress k
-news_later e k news pairs =
-    news_by (nat_lt e.boot k.boot) (e.boot == k.boot) (nat_lt (progress e) (progress k)) (progress e) (progress k) news
-    (λ t. pairs (ltb-true e.boot k.boot t)) (λ t. ltb-true (progress e) (progress k) t)
+later_record e k later pairs =
+    later_by (nat_lt e.boot k.boot) (e.boot == k.boot) (nat_lt (progress e) (progress k)) (progress e) (progress k)
+    later (λ t. pairs (ltb-true e.boot k.boot t)) (λ t. ltb-true (progress e) (progress k) t)
+
+news_by : (a b c d : Bool) (m n : ℕ) → (a || (b && (c && d))) ≡ true → (a ≡ true → m ≤ n) → (d ≡ true → m ≡ n) → m ≤ n
+news_by true b c d m n e one two = one refl
+news_by false true true true m n e one two = let same = two refl in omega (arith, same)
+news_by false true true false m n e one two = absurd cc
+news_by false true false d m n e one two = absurd cc
+news_by false false c d m n e one two = absurd cc
+
+news_later : (s : Standing) (k : Record) → is_news s k ≡ true
+    → (s.board.boot < k.boot → progress s.board ≤ progress k) → progress s.board ≤ progress k
+news_later s k news pairs =
+    let e : Record = s.board in
+    news_by (is_later e k) s.is_lost (e.boot == k.boot) (progress e == progress k) (progress e) (progress k) news
+    (λ t. later_record e k t pairs) (λ t. eqb-true (progress e) (progress k) t)
 
 up_to : (e k : Record) (a b : Bool) → e.begun ≡ a → k.begun ≡ b → k.last < 2 ^ 32 → progress e ≤ progress k
     → (e.last ≤ k.last) × (reach e ≤ reach k)
@@ -346,7 +361,7 @@ agreeing stored rest all cs below e k goes is low first up most one two =
 
 pub own_agrees : (stored : List Waiting) (g : Past) (ws : List ℕ) (up : List Bool) (all : List Waiting) (s : State)
     (b : Board) (kept : Record) → g.quiet ≡ true → Good stored g ws up all s → IsOwnBoard stored g.said g.directed b
-    → IsAmong kept g.said → IsFit (length stored) kept → is_news s.standing.board kept ≡ true
+    → IsAmong kept g.said → IsFit (length stored) kept → is_news s.standing kept ≡ true
     → (agrees s.standing.below s.commands s.standing.board kept ≡ true) × (s.standing.below ≤ kept.last)
 own_agrees stored g ws up all s b kept q k h among fits news =
     let e : Record = s.standing.board in
@@ -359,7 +374,7 @@ own_agrees stored g ws up all s b kept q k h among fits news =
           let history : HasHistory stored (no_commands 0 0) = refl in
           let none : progress e ≡ 0 = ap progress first in
           (subst (HasHistory stored) (sym first) history, omega (arith, none))
-      | inr there ↦ (said e there, news_later e kept news (λ low. pairs e kept there among low))
+      | inr there ↦ (said e there, news_later s.standing kept news (λ low. pairs e kept there among low))
     ] in
     let bounds = up_to e kept e.begun kept.begun refl refl fits.range.last facts.1 in
     let lasts = bounds.0 in
