@@ -1,5 +1,5 @@
 -- A store is read as it was written.
-use Rattle.std.proofs.Common.{◌≡◌, ℕ, zero, suc, ◌+◌, ◌-◌, ◌/◌, ◌%◌, ◌<◌, ◌≤◌, ◌^◌}
+use Rattle.std.proofs.Common.{◌≡◌, ℕ, zero, suc, ◌+◌, ◌-◌, ◌/◌, ◌%◌, ◌<◌, ◌≤◌}
 use Rattle.std.proofs.Common.{List, [], ◌∷◌, ◌++◌, length, take, drop}
 use Rattle.std.proofs.Common.{refl, sym, ap, subst, ◌∙◌, arith, Bool, true, false, Option, Some, None}
 use Rattle.std.proofs.Common.{eq-eqb, le-leb, length-append}
@@ -7,8 +7,8 @@ use Rattle.std.proofs.lemmas.Bool.{leb-true, lt-leb, ne_eqb}
 use Rattle.std.proofs.lemmas.List.{take_at, drop_at, length-take-le, drop-drop, append_assoc}
 use Rattle.std.specs.Prelude.{◌&&◌, ◌==◌, nat_le, slice_index, if◌then◌else◌, is_some}
 use Rattle.byteorder.specs.Endian.{big_bytes, big_number}
-use Rattle.command_log.specs.Check.{check_of, sealed, holds_check}
-use Rattle.command_log.specs.Layout.{front_octets, fields_of, IsInRange}
+use Rattle.command_log.specs.Check.{check_of, holds_check}
+use Rattle.command_log.specs.Layout.{front_octets, fields_of}
 use Rattle.command_log.specs.declared.record.Record.{Record}
 use Rattle.command_log.proofs.Exact.{holds_sealed, are_both}
 use Rattle.command_log.proofs.ReadBack.{fields_back, flag_back}
@@ -16,7 +16,7 @@ use Rattle.command_ledger.specs.declared.known.Standing.{Standing}
 use Rattle.command_ledger.specs.declared.known.Rebuild.{Rebuild}
 use Rattle.command_ledger.specs.State.{State, Entry, Gives, Hears, Loses, Rebuilds, Tells, Stands}
 use Rattle.command_ledger.specs.State.{new_state, after_entry, follows}
-use Rattle.command_ledger.specs.Entries.{spelling, entry_octets, rebuild_octets, standing_octets, IsShort}
+use Rattle.command_ledger.specs.Entries.{spelling, entry_octets, rebuild_octets, standing_octets}
 use Rattle.command_ledger.specs.Entries.{gives_in, rebuild_in, standing_in, mark_in, order_in}
 use Rattle.command_ledger.specs.Entries.{mark_octets, order_octets, flag}
 use Rattle.command_ledger.specs.Entries.{entry_with, entry_in, entry_len}

@@ -1,5 +1,5 @@
 -- No number is given twice, or after the board has reached it.
-use Rattle.std.proofs.Common.{◌≡◌, ℕ, ◌+◌, ◌-◌, ◌<◌, ◌≤◌, min, max, List, [], ◌∷◌, length, drop, take}
+use Rattle.std.proofs.Common.{◌≡◌, ℕ, ◌+◌, ◌-◌, ◌≤◌, max, List, [], ◌∷◌, length}
 use Rattle.std.proofs.Common.{Bool, true, false, refl, arith, eqb-true, ltb-true, length-append, length-drop}
 use Rattle.std.proofs.lemmas.Bool.{ltb-false}
 use Rattle.std.specs.Prelude.{◌&&◌, ◌==◌, nat_lt, nat_le, if◌then◌else◌}
@@ -7,12 +7,11 @@ use Rattle.std.specs.List.{AllByRecursion}
 use Rattle.command_log.specs.Packets.{is_command, number_in}
 use Rattle.command_log.specs.declared.record.Record.{Record}
 use Rattle.command_log.proofs.Steps.{both}
-use Rattle.command_ledger.specs.Known.{reach, obeyed}
-use Rattle.command_ledger.specs.Waiting.{Waiting}
+use Rattle.command_ledger.specs.Known.{reach}
 use Rattle.command_ledger.specs.State.{State, Entry, Gives, Hears, Loses, Rebuilds, Tells, Stands}
-use Rattle.command_ledger.specs.State.{highest, after_entry, follows, passed, hears, gives}
+use Rattle.command_ledger.specs.State.{highest, after_entry, follows, passed, hears}
 use Rattle.command_ledger.specs.Kept.{AreEntries}
-use Rattle.command_ledger.specs.Numbers.{IsAppended, used_by, GivesAbove, AreNew, EachNumberIsNew}
+use Rattle.command_ledger.specs.Numbers.{IsAppended, AreNew, EachNumberIsNew}
 
 -- the highest number after a record, if it is above the board's reach or not
 reached : (b : Bool) (below many count r : ℕ) → nat_lt (below + many) r ≡ b → count ≤ many

@@ -1,4 +1,4 @@
-use Rattle.std.proofs.Common.{◌≡◌, ℕ, suc, ◌+◌, ◌-◌, length, ◌∙◌, arith}
+use Rattle.std.proofs.Common.{ℕ, ◌+◌, ◌-◌, length, ◌∙◌, arith}
 use Rattle.command_ledger.proofs.Reading.{stop_read, one_read}
 use Rattle.command_ledger.proofs.store.read.Goals as goal
 
