@@ -246,7 +246,7 @@ frames_lost =
 abbrev pub joined : List ℕ
 joined = take 4 queued ++ drop 4 queued_later
 
--- ---- what a program sees if it resumes by a value that no CLCW has
+-- ---- what a program sees if it resumes by another value than that of a CLCW made in time
 
 abbrev pub lent : List ℕ → Bor (List ℕ)
 lent octets = record { ref_ptr = (0, 0); now = octets }
@@ -263,6 +263,20 @@ resumed_by_another =
     ∷ events.DownDeliver ∷ events.Submit 4 (lent another) ∷ events.Send ∷ events.UpDeliver
     ∷ events.Take ∷ []
 
+-- The value is too old. The program gives up while the command is in transit. The CLCW that arrives
+-- next was made before the command arrived, and the program resumes by its value, which is 0. The
+-- session that begins is never confirmed. The program then resumes by the value of a CLCW made now,
+-- which is 1, and submits the command again.
+abbrev pub resumed_too_early : List Event
+resumed_too_early =
+    events.Directive InitUnlock ∷ events.Send ∷ events.UpDeliver ∷ events.Report
+    ∷ events.DownDeliver ∷ events.Submit 4 (lent command) ∷ events.Send ∷ events.Directive Terminate
+    ∷ events.Report ∷ events.UpDeliver ∷ events.DownDeliver ∷ events.Resume 0
+    ∷ events.Directive Terminate ∷ events.Report ∷ events.DownDeliver ∷ events.Resume 1
+    ∷ events.Send ∷ events.UpDeliver ∷ events.Report ∷ events.DownDeliver
+    ∷ events.Submit 4 (lent command) ∷ events.Send ∷ events.UpDeliver ∷ events.Take ∷ events.Take
+    ∷ []
+
 -- a session that submitted these packets on MAP 4, after the first `from` wanted submissions
 abbrev pub part_of : ℕ → List (List ℕ) → Part
 part_of from packets = record { from = from; submissions = map (packet_on 4) packets }
@@ -274,3 +288,11 @@ pub record SkipsTheFirst (s : Seen) : Type 0 where
   pub parts : s.before ++ s.session ∷ []
       ≡ part_of 0 [] ∷ part_of 0 (command ∷ []) ∷ part_of 1 [] ∷ part_of 1 (another ∷ []) ∷ []
   pub taken : s.taken ≡ packet_on 4 another ∷ []
+
+-- Each session began after silence and submitted the next wanted command. One command is wanted,
+-- and yet it was taken twice.
+pub record TakesTwice (s : Seen) : Type 0 where
+  pub idle : s.idle ≡ true
+  pub parts : s.before ++ s.session ∷ []
+      ≡ part_of 0 [] ∷ part_of 0 (command ∷ []) ∷ part_of 0 [] ∷ part_of 0 (command ∷ []) ∷ []
+  pub taken : s.taken ≡ packet_on 4 command ∷ packet_on 4 command ∷ []

@@ -8,7 +8,7 @@ ghost use Rattle.tc_link.specs.Needed.{frame_overtaken, report_overtaken, frame_
 ghost use Rattle.tc_link.specs.Needed.{second_sender, restarted, over_the_window, frames_lost};
 ghost use Rattle.tc_link.specs.Needed.{two_new, closed, blocking, ground_restarted, one_sent, both_sent};
 ghost use Rattle.tc_link.specs.Needed.{parted, part_left, long_later, mixed, IsNeverSubmitted};
-ghost use Rattle.tc_link.specs.Needed.{SkipsTheFirst, resumed_by_another};
+ghost use Rattle.tc_link.specs.Needed.{SkipsTheFirst, resumed_by_another, TakesTwice, resumed_too_early};
 ghost use Rattle.tc_link.specs.Seen.{seen};
 
 /// Each condition of the link is needed: for each condition there is a run that keeps all the others and goes
@@ -27,10 +27,12 @@ ghost use Rattle.tc_link.specs.Seen.{seen};
 ///
 /// A MAP is closed on board only (`maps`), or only the ground blocks (`blocks`).
 ///
-/// Three more runs go wrong in other ways. A program that resumes by a value that no CLCW has leaves a
-/// command out (`value`). In this run each session begins after silence and submits what is wanted next. With
-/// a sender's window of one more than half the width, the receiver enters Lockout (`window`). After 256
-/// telemetry frames lost in a row, a packet is delivered that was never queued (`outage`).
+/// Four more runs go wrong in other ways. A program that resumes by a value that no CLCW has leaves a command
+/// out (`value`). A program that resumes by the value of a CLCW that was made while the command was still in
+/// transit has the command delivered twice (`old_value`). In these two runs each session begins after silence
+/// and submits what is wanted next. With a sender's window of one more than half the width, the receiver
+/// enters Lockout (`window`). After 256 telemetry frames lost in a row, a packet is delivered that was never
+/// queued (`outage`).
 ///
 /// The configurations are in their ranges, except for the window of `window` (`ranges`).
 pub fn law_of_premises()
@@ -54,5 +56,7 @@ pub fn law_of_premises()
     ensures outage { (loose_run (new_world small) frames_lost).ground_node.telemetry ≡ joined ∷ [] }
     ensures value { SkipsTheFirst
         (seen resumed_by_another (run_answers (new_world small) resumed_by_another)) }
+    ensures old_value { TakesTwice
+        (seen resumed_too_early (run_answers (new_world small) resumed_too_early)) }
     ensures ranges { IsConfig small × IsConfig closed × IsConfig blocking × IsConfig parted }
 {}

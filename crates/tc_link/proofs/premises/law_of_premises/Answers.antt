@@ -86,5 +86,10 @@ unfolding tc.frame_at tc.body_at tc.command_at tc.segment_at tm.frame_at check_o
     extent_at packet_at groups_of pieces_of
 returns-clause-value c = record { idle = refl; parts = refl; taken = refl }
 
+pub returns-clause-old_value : goal.returns-clause-old_value
+unfolding tc.frame_at tc.body_at tc.command_at tc.segment_at tm.frame_at check_of remainder clcw_at records_of rest_of
+    extent_at packet_at groups_of pieces_of
+returns-clause-old_value c = record { idle = refl; parts = refl; taken = refl }
+
 pub returns-clause-ranges : goal.returns-clause-ranges
 returns-clause-ranges c = (config_is _ refl, config_is _ refl, config_is _ refl, config_is _ refl)
