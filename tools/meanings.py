@@ -174,7 +174,7 @@ def rust_meanings(text, known):
 
 # What a text is of a number that its enumeration does not have, where it is not that of a sedge_status.
 UNKNOWN = {it: '"?"' for it in ("status", "link_fault", "parameter")}
-UNKNOWN["sim_fault"] = f'number < {SHARED} ? "?" : sedge_link_fault_text(number)'
+UNKNOWN["sim_fault"] = UNKNOWN["ledger_fault"] = f'number < {SHARED} ? "?" : sedge_link_fault_text(number)'
 TEXTS = re.compile(r"^(static inline const char \*sedge_(\w+)_text\(uint8_t number\) \{\n).*?^\}", re.M | re.S)
 
 

@@ -155,8 +155,9 @@ impl Commander {
         self.ledger.command(tag, map, apid, count, content)
     }
 
-    /// Makes the order that brings a record to a board that has lost its own; an operator decides this.
-    /// Nothing is known then of the commands that may have been sent and have no fate.
+    /// Makes the order that brings a record to a board that has lost its own; an operator decides this. Once
+    /// a status shows that the board obeyed it, each command that was stored by now and has no fate is
+    /// unknown, whether or not it was sent.
     /// Faults: 6 NotLost, then 7 NoBoot, 9 Memory. Memory: yes.
     pub fn rebuild(&mut self) -> Result<(), LedgerFault>
         ensures refused { IfErr (rebuild_of self.old.ledger) (λ f. result ≡ Err f) }
@@ -175,14 +176,15 @@ impl Commander {
         self.session.restarts = true;
     }
 
-    /// Stops the sending of commands until `go_on`. Frames that were sent may be retransmitted.
+    /// Stops the submission of commands to the ground until `go_on`. The ground still sends the commands that
+    /// were submitted.
     pub fn pause(&mut self)
         ensures { self.new ≡ paused self.old true }
     {
         self.session.paused = true;
     }
 
-    /// Resumes the sending of commands.
+    /// Resumes the submission of commands.
     pub fn go_on(&mut self)
         ensures { self.new ≡ paused self.old false }
     {

@@ -44,10 +44,12 @@ use Rattle.std.specs.contracts.alloc.Global as heap
 use Rattle.std.proofs.alloc.Global.TheLaws as heap_laws
 use Rattle.nodes.specs.contracts.ground_node.Ground as ground_node
 use Rattle.nodes.specs.contracts.spacecraft.Spacecraft as spacecraft_node
+use Rattle.commander.specs.contracts.commander.Commander as commander_node
 use Rattle.sedgechisel_nodes.specs.contracts.sim.link.Link as link
 use Rattle.sedgechisel_nodes.specs.contracts.handles.GroundHandle as ground_handle
 use Rattle.sedgechisel_nodes.specs.contracts.handles.SpacecraftHandle as spacecraft_handle
 use Rattle.sedgechisel_nodes.specs.contracts.handles.SimHandle as link_handle
+use Rattle.sedgechisel_nodes.specs.contracts.commanding.CommanderHandle as commander_handle
 
 -- a handle's type: what it keeps, and its values as a pointer and what is kept there
 pub record Handled : Type 2 where
@@ -245,7 +247,7 @@ module _ (h : Handled) where
           returns ! (look_at ! 0 refl) $ free_all ! refl $ keep ! (3 ∷ 0 ∷ 2 ∷ 1 ∷ []) $
           by ! (leaves 𝓛 En hs c z made (record { at = p; alloc = a; value = m }) (tt, (tt, tt)) (tt, (tt, tt))))))
 
--- The handles of the ground, of the spacecraft and of the simulated link.
+-- The handles of the ground, of the spacecraft, of the simulated link and of the commander.
 
 abbrev pub of_ground : Handled
 of_ground = handled ground_node.the_row ground_handle.the_type
@@ -257,4 +259,8 @@ of_spacecraft = handled spacecraft_node.the_row spacecraft_handle.the_type
 
 abbrev pub of_link : Handled
 of_link = handled link.the_row link_handle.the_type
+    (λ d. (d.at, d.value)) (λ x. record { at = x.0; value = x.1 }) (λ x. refl)
+
+abbrev pub of_commander : Handled
+of_commander = handled commander_node.the_row commander_handle.the_type
     (λ d. (d.at, d.value)) (λ x. record { at = x.0; value = x.1 }) (λ x. refl)

@@ -1,2 +1,3 @@
 pub mod Handled
 pub mod Answered
+pub mod Commanded

@@ -6,3 +6,4 @@ pub mod Heard
 pub mod LinkFields
 pub mod Links
 pub mod Numbers
+pub mod Commanding

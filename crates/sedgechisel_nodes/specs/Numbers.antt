@@ -11,6 +11,8 @@ use Rattle.nodes.specs.declared.fault.LinkFault.TheVariants as link
 use Rattle.nodes.specs.Faults as link_faults
 use Rattle.simulated_link.specs.declared.fault.SimFault.TheVariants as sim
 use Rattle.simulated_link.specs.Faults as sim_faults
+use Rattle.command_ledger.specs.declared.fault.LedgerFault.TheVariants as ledger
+use Rattle.command_ledger.specs.Faults as ledger_faults
 
 -- a parameter's number, in the order in which parameters are checked
 abbrev pub parameter_number : Parameter → ℕ
@@ -50,3 +52,9 @@ abbrev pub sim_fault_word : ℕ → List ℕ
 sim_fault_word n =
     name_by sim_faults.fault_row
     (sim.Memory ∷ sim.NothingInTransit ∷ sim.NotDetectable ∷ []) n
+
+abbrev pub ledger_fault_word : ℕ → List ℕ
+ledger_fault_word n =
+    name_by ledger_faults.fault_row
+    (ledger.Layout ∷ ledger.Check ∷ ledger.FieldRange ∷ ledger.TooLong ∷ ledger.NoNumber
+    ∷ ledger.NotLost ∷ ledger.NoBoot ∷ ledger.Owing ∷ ledger.Memory ∷ []) n

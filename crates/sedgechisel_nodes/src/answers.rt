@@ -14,3 +14,6 @@ pub(crate) const ROOM: u8 = 252;
 
 /// Memory ran out.
 pub(crate) const MEMORY: u8 = 6;
+
+/// A commander ran out of memory.
+pub(crate) const NO_MEMORY: u8 = 9;

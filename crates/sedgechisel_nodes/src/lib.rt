@@ -26,6 +26,7 @@ macro_rules! read {
 }
 
 mod answers;
+mod commanding;
 mod ground;
 mod ground_directive;
 mod ground_kept;

@@ -2,9 +2,10 @@
 
 ghost use Rattle.std.specs.Prelude.{◌≡◌};
 ghost use Rattle.c_words.specs.Words.{text_of};
-ghost use Rattle.sedgechisel_nodes.specs.Numbers.{parameter_word, link_fault_word, sim_fault_word};
+ghost use Rattle.sedgechisel_nodes.specs.Numbers.{parameter_word, link_fault_word, sim_fault_word, ledger_fault_word};
 
 use c_words::{Text, named};
+use command_ledger::LedgerFault;
 use nodes::{LinkFault, Parameter};
 use tc_link::SimFault;
 
@@ -35,4 +36,14 @@ pub extern "C" fn sedge_sim_fault_name(number: u8) -> Text
     ensures { result.text ≡ text_of (sim_fault_word number) }
 {
     named!(number, SimFault: 6 => Memory, 7 => NothingInTransit, 8 => NotDetectable)
+}
+
+/// Returns the name of a `sedge_ledger_fault` of 1 to 9; "?" for another number.
+#[unsafe(no_mangle)]
+pub extern "C" fn sedge_ledger_fault_name(number: u8) -> Text
+    ensures { result.text ≡ text_of (ledger_fault_word number) }
+{
+    named!(number, LedgerFault:
+        1 => Layout, 2 => Check, 3 => FieldRange, 4 => TooLong, 5 => NoNumber, 6 => NotLost,
+        7 => NoBoot, 8 => Owing, 9 => Memory)
 }

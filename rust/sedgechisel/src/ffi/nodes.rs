@@ -396,6 +396,46 @@ unsafe extern "C" {
         spacecraft: &mut Spacecraft, config: &Config, kept: &SpacecraftReading,
     ) -> u8;
 
+    pub safe fn sedge_commander_close(commander: &mut Commander);
+    fn sedge_commander_open(
+        commander: &mut Commander, config: &Config, mission: &Mission, store: *const u8, store_count: usize,
+        good: &mut usize,
+    ) -> u8;
+    fn sedge_commander_command(
+        commander: &mut Commander, tag: u64, map: u8, apid: u16, sequence: u16, content: *const u8,
+        content_count: usize, number: &mut u32,
+    ) -> u8;
+    fn sedge_commander_telemetry(
+        commander: &mut Commander, octets: *const u8, count: usize, heard: &mut Heard,
+    ) -> u8;
+    fn sedge_commander_clcw(
+        commander: &mut Commander, octets: *const u8, count: usize, heard: &mut Heard,
+    ) -> u8;
+    fn sedge_commander_status(commander: &mut Commander, octets: *const u8, count: usize) -> u8;
+    pub safe fn sedge_commander_tick(commander: &mut Commander) -> u8;
+    fn sedge_commander_next(
+        commander: &mut Commander, action: &mut CommanderAction, out: *mut u8, room: usize,
+    ) -> u8;
+    fn sedge_commander_unstored(
+        commander: &mut Commander, out: *mut u8, room: usize, count: &mut usize,
+    ) -> u8;
+    pub safe fn sedge_commander_stored(commander: &mut Commander, count: usize) -> u8;
+    pub safe fn sedge_commander_told(commander: &mut Commander, action: &CommanderAction) -> u8;
+    pub safe fn sedge_commander_next_telemetry(commander: &mut Commander, count: &mut usize) -> u8;
+    fn sedge_commander_take_telemetry(
+        commander: &mut Commander, out: *mut u8, room: usize, count: &mut usize,
+    ) -> u8;
+    pub safe fn sedge_commander_progress(commander: &mut Commander, number: u32, progress: &mut u8) -> u8;
+    pub safe fn sedge_commander_pause(commander: &mut Commander) -> u8;
+    pub safe fn sedge_commander_go_on(commander: &mut Commander) -> u8;
+    pub safe fn sedge_commander_restart_board(commander: &mut Commander) -> u8;
+    pub safe fn sedge_commander_rebuild(commander: &mut Commander) -> u8;
+    pub safe fn sedge_commander_read(commander: &mut Commander, read: &mut CommanderReading) -> u8;
+    pub safe fn sedge_commander_read_ground(commander: &mut Commander, read: &mut GroundReading) -> u8;
+    fn sedge_commander_fresh(commander: &mut Commander, out: *mut u8, room: usize, count: &mut usize) -> u8;
+    pub safe fn sedge_commander_renewed(commander: &mut Commander, count: usize) -> u8;
+    pub safe fn sedge_ledger_fault_name(number: u8) -> Text;
+
     pub safe fn sedge_sim_open(sim: &mut Sim, config: &Config) -> u8;
     pub safe fn sedge_sim_close(sim: &mut Sim);
     pub safe fn sedge_sim_fault_name(number: u8) -> Text;
@@ -481,6 +521,57 @@ pub fn spacecraft_telemetry(spacecraft: &mut Spacecraft, packet: &[u8]) -> u8 {
 pub fn spacecraft_telemetry_frame(spacecraft: &mut Spacecraft, out: &mut [u8], count: &mut usize) -> u8 {
     // SAFETY: each pointer to octets and the count after it come from one slice; all other pointers are references.
     unsafe { sedge_spacecraft_telemetry_frame(spacecraft, out.as_mut_ptr(), out.len(), count) }
+}
+
+pub fn commander_open(
+    commander: &mut Commander, config: &Config, mission: &Mission, store: &[u8], good: &mut usize,
+) -> u8 {
+    // SAFETY: each pointer to octets and the count after it come from one slice; all other pointers are references.
+    unsafe { sedge_commander_open(commander, config, mission, store.as_ptr(), store.len(), good) }
+}
+
+pub fn commander_command(
+    commander: &mut Commander, tag: u64, map: u8, apid: u16, sequence: u16, content: &[u8], number: &mut u32,
+) -> u8 {
+    // SAFETY: each pointer to octets and the count after it come from one slice; all other pointers are references.
+    unsafe {
+        sedge_commander_command(commander, tag, map, apid, sequence, content.as_ptr(), content.len(), number)
+    }
+}
+
+pub fn commander_telemetry(commander: &mut Commander, octets: &[u8], heard: &mut Heard) -> u8 {
+    // SAFETY: each pointer to octets and the count after it come from one slice; all other pointers are references.
+    unsafe { sedge_commander_telemetry(commander, octets.as_ptr(), octets.len(), heard) }
+}
+
+pub fn commander_clcw(commander: &mut Commander, octets: &[u8], heard: &mut Heard) -> u8 {
+    // SAFETY: each pointer to octets and the count after it come from one slice; all other pointers are references.
+    unsafe { sedge_commander_clcw(commander, octets.as_ptr(), octets.len(), heard) }
+}
+
+pub fn commander_status(commander: &mut Commander, octets: &[u8]) -> u8 {
+    // SAFETY: each pointer to octets and the count after it come from one slice; all other pointers are references.
+    unsafe { sedge_commander_status(commander, octets.as_ptr(), octets.len()) }
+}
+
+pub fn commander_next(commander: &mut Commander, action: &mut CommanderAction, out: &mut [u8]) -> u8 {
+    // SAFETY: each pointer to octets and the count after it come from one slice; all other pointers are references.
+    unsafe { sedge_commander_next(commander, action, out.as_mut_ptr(), out.len()) }
+}
+
+pub fn commander_unstored(commander: &mut Commander, out: &mut [u8], count: &mut usize) -> u8 {
+    // SAFETY: each pointer to octets and the count after it come from one slice; all other pointers are references.
+    unsafe { sedge_commander_unstored(commander, out.as_mut_ptr(), out.len(), count) }
+}
+
+pub fn commander_take_telemetry(commander: &mut Commander, out: &mut [u8], count: &mut usize) -> u8 {
+    // SAFETY: each pointer to octets and the count after it come from one slice; all other pointers are references.
+    unsafe { sedge_commander_take_telemetry(commander, out.as_mut_ptr(), out.len(), count) }
+}
+
+pub fn commander_fresh(commander: &mut Commander, out: &mut [u8], count: &mut usize) -> u8 {
+    // SAFETY: each pointer to octets and the count after it come from one slice; all other pointers are references.
+    unsafe { sedge_commander_fresh(commander, out.as_mut_ptr(), out.len(), count) }
 }
 
 pub fn sim_octets(sim: &mut Sim, out: &mut [u8], count: &mut usize) -> u8 {
