@@ -168,6 +168,12 @@ static void put64_at(uintptr_t at, uint64_t value)
 }
 #define put64(at, value) put64_at((uintptr_t)(at), value)
 
+static void put_own32_at(uintptr_t at, uint32_t value)
+{
+    *(uint32_t *)(void *)OCTETS(at) = value;
+}
+#define put_own32(at, value) put_own32_at((uintptr_t)(at), value)
+
 /* Moves octets, which may overlap. */
 static void copy_at(uintptr_t to, uintptr_t from, size_t count)
 {
@@ -180,6 +186,11 @@ static void fill_at(uintptr_t to, uint32_t value, size_t count)
     if (count > 0) memset(OCTETS(to), (int)(value & 255), (size_t)count);
 }
 #define fill(to, value, count) fill_at((uintptr_t)(to), value, (size_t)(count))
+
+static uint32_t rotl32(uint32_t x, uint32_t count)
+{
+    return x << count | x >> ((32 - count) & 31);
+}
 
 /* A number of fewer bits, the highest of them this, made longer with its sign. */
 static uint32_t extend32(uint32_t x, uint32_t highest)
@@ -331,18 +342,22 @@ static const unsigned char constant_16[127] = {
 };
 
 /* Of sedge_sim_fault_name_at. */
-static const unsigned char constant_25[6] = {
+static const unsigned char constant_28[6] = {
     77, 101, 109, 111, 114, 121
 };
 
 /* Of sedge_sim_fault_name_at. */
-static const unsigned char constant_27[16] = {
+static const unsigned char constant_34[16] = {
     78, 111, 116, 104, 105, 110, 103, 73, 110, 84, 114, 97, 110, 115, 105, 116
 };
 
 /* Of sedge_sim_fault_name_at. */
-static const unsigned char constant_28[13] = {
+static const unsigned char constant_35[13] = {
     78, 111, 116, 68, 101, 116, 101, 99, 116, 97, 98, 108, 101
+};
+
+/* Of command_ledger_entry_spelling, sedge_commander_unstored_at. */
+static const unsigned char constant_41[0] = {
 };
 
 /* Of octets_frame_check_check. */
@@ -683,16 +698,28 @@ SHARED const unsigned char sedge_fecf_tables[] = {
 };
 
 /* Of tm_link_builder_TmBuilder_build_in. */
-static const unsigned char constant_36[7] = {
+static const unsigned char constant_45[7] = {
     7, 255, 192, 0, 0, 0, 85
 };
 
 /* Of nodes_config_Config_fault, sedge_config_fault_at. */
-static const unsigned char switch_table_sedge_config_fault_419[120] = {
+static const unsigned char switch_table_sedge_config_fault_513[120] = {
     4, 0, 0, 0, 0, 0, 0, 0, 4, 0, 0, 0, 0, 0, 0, 0, 7, 0, 0, 0, 0, 0, 0, 0, 5, 0, 0, 0, 0, 0, 0, 0, 6, 0, 0, 0, 0, 0,
     0, 0, 5, 0, 0, 0, 0, 0, 0, 0, 5, 0, 0, 0, 0, 0, 0, 0, 4, 0, 0, 0, 0, 0, 0, 0, 10, 0, 0, 0, 0, 0, 0, 0, 4, 0, 0, 0,
     0, 0, 0, 0, 11, 0, 0, 0, 0, 0, 0, 0, 12, 0, 0, 0, 0, 0, 0, 0, 11, 0, 0, 0, 0, 0, 0, 0, 12, 0, 0, 0, 0, 0, 0, 0, 8,
     0, 0, 0, 0, 0, 0, 0
+};
+
+/* Of sedge_ledger_fault_name_at. */
+static const unsigned char switch_table_sedge_ledger_fault_name[18] = {
+    0, 0, 0, 0, 103, 101, 0, 0, 0, 0, 0, 0, 0, 0, 0, 0, 0, 0
+};
+
+/* Of sedge_ledger_fault_name_at. */
+static const unsigned char switch_table_sedge_ledger_fault_name_514[72] = {
+    76, 97, 121, 111, 117, 116, 0, 0, 67, 104, 101, 99, 107, 0, 0, 0, 70, 105, 101, 108, 100, 82, 97, 110, 84, 111,
+    111, 76, 111, 110, 103, 0, 78, 111, 78, 117, 109, 98, 101, 114, 78, 111, 116, 76, 111, 115, 116, 0, 78, 111, 66,
+    111, 111, 116, 0, 0, 79, 119, 105, 110, 103, 0, 0, 0, 77, 101, 109, 111, 114, 121, 0, 0
 };
 
 /* Of sedge_link_fault_name_at. */
@@ -701,12 +728,12 @@ static const unsigned char switch_table_sedge_link_fault_name[10] = {
 };
 
 /* Of sedge_link_fault_name_at. */
-static const unsigned char switch_table_sedge_link_fault_name_420[10] = {
+static const unsigned char switch_table_sedge_link_fault_name_515[10] = {
     0, 0, 100, 0, 0, 0, 0, 0, 0, 0
 };
 
 /* Of sedge_link_fault_name_at. */
-static const unsigned char switch_table_sedge_link_fault_name_421[80] = {
+static const unsigned char switch_table_sedge_link_fault_name_516[80] = {
     78, 111, 116, 79, 112, 101, 110, 0, 67, 108, 111, 115, 101, 100, 77, 97, 78, 111, 116, 67, 111, 109, 109, 97, 84,
     111, 111, 76, 111, 110, 103, 0, 81, 117, 101, 117, 101, 70, 117, 108, 77, 101, 109, 111, 114, 121, 0, 0, 63, 0, 0,
     0, 0, 0, 0, 0, 63, 0, 0, 0, 0, 0, 0, 0, 63, 0, 0, 0, 0, 0, 0, 0, 78, 111, 116, 75, 110, 111, 119, 110
@@ -718,19 +745,19 @@ static const unsigned char switch_table_sedge_parameter_name[30] = {
 };
 
 /* Of sedge_parameter_name_at. */
-static const unsigned char switch_table_sedge_parameter_name_422[30] = {
+static const unsigned char switch_table_sedge_parameter_name_517[30] = {
     0, 0, 0, 0, 0, 0, 0, 0, 0, 0, 0, 0, 0, 0, 0, 0, 101, 116, 0, 0, 111, 116, 108, 111, 111, 116, 110, 103, 0, 0
 };
 
 /* Of sedge_parameter_name_at. */
-static const unsigned char switch_table_sedge_parameter_name_423[60] = {
+static const unsigned char switch_table_sedge_parameter_name_518[60] = {
     0, 0, 0, 0, 0, 0, 0, 0, 99, 105, 100, 0, 104, 0, 0, 0, 111, 119, 0, 0, 116, 0, 0, 0, 114, 0, 0, 0, 0, 0, 0, 0,
     112, 97, 99, 107, 0, 0, 0, 0, 121, 95, 115, 108, 115, 115, 95, 115, 101, 95, 115, 108, 101, 95, 108, 101, 107,
     105, 110, 103
 };
 
 /* Of sedge_parameter_name_at. */
-static const unsigned char switch_table_sedge_parameter_name_424[60] = {
+static const unsigned char switch_table_sedge_parameter_name_519[60] = {
     115, 99, 105, 100, 118, 99, 105, 100, 116, 109, 95, 118, 119, 105, 100, 116, 119, 105, 110, 100, 108, 105, 109,
     105, 116, 105, 109, 101, 112, 97, 114, 116, 109, 97, 120, 95, 109, 97, 112, 115, 114, 101, 97, 100, 98, 121, 112,
     97, 113, 117, 101, 117, 102, 114, 97, 109, 98, 108, 111, 99
@@ -745,29 +772,41 @@ static const unsigned char *const switch_table_sedge_config_fault[15] = {
 /* ---- The functions, as they were compiled. ---- */
 
 static void nodes_config_Config_fault(uint64_t p0, uint64_t p1);
-static uint32_t core_cmp_slices_groups_equal_i8_31_core_cmp_numbers_U8PartialEq(uint64_t p0, uint64_t p1, uint64_t
-    p2);
+static uint32_t command_log_crc_check_after(uint32_t p0, uint64_t p1, uint64_t p2);
+static void command_log_record_decode_fields(uint64_t p0, uint64_t p1);
+static uint32_t command_ledger_state_State_apply(uint64_t p0, uint64_t p1);
+static uint32_t std_alloc_vec_deque_VecDeque_grow_c568a10ff55b2fe1(uint64_t p0);
+static uint32_t std_alloc_vec_deque_VecDeque_grow_38ee247ebc2fad84(uint64_t p0, uint64_t p1);
+static uint32_t std_alloc_vec_Vec_extend_from_slice_916571bd4b2b1111(uint64_t p0, uint64_t p1, uint64_t p2);
+static uint32_t std_alloc_vec_Vec_grow_amortized_8131ac0ff0013ce2(uint64_t p0, uint64_t p1);
+static uint32_t std_alloc_vec_Vec_grow_amortized_c568a10ff55b2fe1(uint64_t p0);
+static uint32_t std_alloc_vec_Vec_grow_amortized_38ee247ebc2fad84(uint64_t p0, uint64_t p1);
 static void nodes_ground_node_Ground_of(uint64_t p0, uint64_t p1);
 static void circular_buffer_heap_HeapCircularBuffer_drop_695a0d5c0a17370d(uint64_t p0);
 static void std_alloc_vec_deque_VecDeque_drop_695a0d5c0a17370d(uint64_t p0);
+static void sedgechisel_nodes_commander_commander_Commander_Destruct_drop(uint64_t p0);
 static void sedgechisel_nodes_nodes_ground_node_Ground_Destruct_drop(uint64_t p0);
+static uint32_t core_cmp_slices_groups_equal_i8_31_core_cmp_numbers_U8PartialEq(uint64_t p0, uint64_t p1, uint64_t
+    p2);
 static void nodes_spacecraft_Spacecraft_restarted(uint64_t p0, uint64_t p1, uint32_t p2);
 static void std_alloc_vec_Vec_drop_b0c2e3ac61d256b1(uint64_t p0);
 static void sedgechisel_nodes_sedgechisel_nodes_sim_link_Link_Destruct_drop(uint64_t p0);
 static void sedgechisel_nodes_nodes_spacecraft_Spacecraft_Destruct_drop(uint64_t p0);
-static void nodes_ground_node_Ground_advance(uint64_t p0);
-static void nodes_ground_node_Ground_refill(uint64_t p0);
-static void nodes_ground_node_Ground_bypass(uint64_t p0, uint64_t p1, uint32_t p2, uint64_t p3, uint64_t p4);
-static uint32_t std_alloc_vec_deque_VecDeque_grow_de4148db516017ec(uint64_t p0);
-static uint32_t std_alloc_vec_Vec_grow_amortized_de4148db516017ec(uint64_t p0);
 static void nodes_ground_node_Ground_report(uint64_t p0, uint64_t p1, uint64_t p2);
 static void cop1_sender_Sender_move_on(uint64_t p0, uint64_t p1, uint32_t p2);
 static void cop1_sender_Sender_ask_for_others(uint64_t p0, uint64_t p1, uint32_t p2, uint32_t p3);
 static void cop1_sender_Sender_ask_for_all(uint64_t p0, uint64_t p1, uint32_t p2);
 static void cop1_fop_trim_trim_09dedc624c4eb86b(uint64_t p0, uint64_t p1, uint64_t p2);
+static void nodes_ground_node_Ground_refill(uint64_t p0);
+static void command_ledger_ledger_Ledger_append(uint64_t p0, uint64_t p1, uint64_t p2);
+static void command_ledger_entry_spelling(uint64_t p0, uint64_t p1);
+static void command_ledger_entry_spelled(uint64_t p0, uint32_t p1, uint64_t p2, uint64_t p3, uint64_t p4, uint64_t
+    p5);
+static void command_log_record_encode_fields(uint64_t p0, uint64_t p1);
+static void nodes_ground_node_Ground_bypass(uint64_t p0, uint64_t p1, uint32_t p2, uint64_t p3, uint64_t p4);
+static uint32_t std_alloc_vec_deque_VecDeque_grow_de4148db516017ec(uint64_t p0);
+static uint32_t std_alloc_vec_Vec_grow_amortized_de4148db516017ec(uint64_t p0);
 static void nodes_ground_node_Ground_directive(uint64_t p0, uint64_t p1, uint64_t p2);
-static void nodes_ground_node_Ground_peek(uint64_t p0, uint64_t p1);
-static void nodes_ground_node_Ground_resume(uint64_t p0, uint64_t p1, uint32_t p2);
 static void nodes_ground_node_Ground_prepare(uint64_t p0, uint64_t p1, uint32_t p2, uint64_t p3, uint64_t p4);
 static uint32_t std_alloc_vec_Vec_grow_amortized_07c4d1320351f897(uint64_t p0);
 static uint32_t nodes_ground_node_Ground_lack_of(uint64_t p0, uint64_t p1, uint64_t p2);
@@ -776,17 +815,22 @@ static uint32_t std_alloc_vec_Vec_grow_amortized_10d150b3d444a65f(uint64_t p0);
 static void nodes_ground_node_Ground_commit(uint64_t p0, uint64_t p1);
 static uint32_t std_alloc_vec_deque_VecDeque_grow_ab161963403435e1(uint64_t p0, uint64_t p1);
 static uint32_t std_alloc_vec_Vec_grow_amortized_ab161963403435e1(uint64_t p0, uint64_t p1);
+static void nodes_ground_node_Ground_peek(uint64_t p0, uint64_t p1);
+static void tc_frame_encoding_encode(uint64_t p0, uint64_t p1, uint64_t p2, uint64_t p3);
+static uint32_t octets_frame_check_check(uint64_t p0, uint64_t p1);
+static void nodes_ground_node_Ground_advance(uint64_t p0);
+static void commander_commander_Commander_status(uint64_t p0, uint64_t p1, uint64_t p2, uint64_t p3);
+static void command_log_status_decode_status(uint64_t p0, uint64_t p1, uint64_t p2);
 static void nodes_ground_node_Ground_telemetry(uint64_t p0, uint64_t p1, uint64_t p2, uint64_t p3);
 static void tm_link_decoding_decode(uint64_t p0, uint64_t p1, uint64_t p2, uint64_t p3);
 static uint32_t tm_link_hand_out_hand_out(uint64_t p0, uint64_t p1, uint64_t p2, uint64_t p3, uint64_t p4);
 static uint32_t std_alloc_vec_Vec_grow_amortized_cf5a566ef03a1ac9(uint64_t p0, uint64_t p1);
 static uint32_t std_alloc_vec_Vec_grow_amortized_5ff1a26cbddecd5f(uint64_t p0, uint64_t p1);
-static uint32_t octets_frame_check_check(uint64_t p0, uint64_t p1);
 static void nodes_ground_node_Ground_tick(uint64_t p0, uint64_t p1);
+static void nodes_ground_node_Ground_resume(uint64_t p0, uint64_t p1, uint32_t p2);
 static void simulated_link_world_World_step(uint64_t p0, uint64_t p1, uint64_t p2);
 static uint32_t simulated_link_world_World_is_idle(uint64_t p0);
 static void simulated_link_world_World_begin(uint64_t p0, uint64_t p1, uint32_t p2, uint32_t p3);
-static void tc_frame_encoding_encode(uint64_t p0, uint64_t p1, uint64_t p2, uint64_t p3);
 static uint32_t std_alloc_vec_deque_VecDeque_grow_1598ebf9113514c4(uint64_t p0);
 static uint32_t std_alloc_vec_Vec_grow_amortized_1598ebf9113514c4(uint64_t p0, uint64_t p1);
 static void map_service_packets_fault_of_alone(uint64_t p0, uint64_t p1, uint64_t p2, uint64_t p3);
@@ -804,16 +848,38 @@ static uint32_t std_alloc_vec_deque_VecDeque_grow_ee377714b7165a56(uint64_t p0);
 static uint32_t std_alloc_vec_Vec_grow_amortized_ee377714b7165a56(uint64_t p0);
 static uint32_t sedgechisel_nodes_spacecraft_take_taken(uint64_t p0, uint32_t p1, uint64_t p2, uint64_t p3, uint64_t
     p4, uint64_t p5);
+static uint32_t sedge_commander_open_at(uint64_t commander, uint64_t config, uint64_t mission, uint64_t store,
+    uint64_t store_count, uint64_t good);
 static void sedge_config_default_at(uint64_t config);
 static uint32_t sedge_config_fault_at(uint64_t config);
 static uint32_t sedge_ground_open_at(uint64_t ground, uint64_t config);
 static uint32_t sedge_ground_open_kept_at(uint64_t ground, uint64_t config, uint64_t kept);
+static uint64_t sedge_ledger_fault_name_at(uint64_t result, uint32_t number);
 static uint64_t sedge_link_fault_name_at(uint64_t result, uint32_t number);
 static uint64_t sedge_parameter_name_at(uint64_t result, uint32_t number);
 static uint64_t sedge_sim_fault_name_at(uint64_t result, uint32_t number);
 static uint32_t sedge_sim_open_at(uint64_t sim, uint64_t config);
 static uint32_t sedge_spacecraft_open_at(uint64_t spacecraft, uint64_t config);
 static uint32_t sedge_spacecraft_open_kept_at(uint64_t spacecraft, uint64_t config, uint64_t kept);
+static uint32_t sedge_commander_clcw_at(uint64_t commander, uint64_t octets, uint64_t count, uint64_t heard);
+static void sedge_commander_close_at(uint64_t commander);
+static uint32_t sedge_commander_command_at(uint64_t commander, uint64_t tag, uint32_t map, uint32_t apid, uint32_t
+    sequence, uint64_t content, uint64_t content_count, uint64_t number);
+static uint32_t sedge_commander_fresh_at(uint64_t commander, uint64_t out, uint64_t room, uint64_t count);
+static uint32_t sedge_commander_go_on_at(uint64_t commander);
+static uint32_t sedge_commander_next_at(uint64_t commander, uint64_t action, uint64_t out, uint64_t room);
+static uint32_t sedge_commander_next_telemetry_at(uint64_t commander, uint64_t count);
+static uint32_t sedge_commander_pause_at(uint64_t commander);
+static uint32_t sedge_commander_read_at(uint64_t commander, uint64_t read);
+static uint32_t sedge_commander_read_ground_at(uint64_t commander, uint64_t read);
+static uint32_t sedge_commander_rebuild_at(uint64_t commander);
+static uint32_t sedge_commander_renewed_at(uint64_t commander, uint64_t count);
+static uint32_t sedge_commander_restart_board_at(uint64_t commander);
+static uint32_t sedge_commander_status_at(uint64_t commander, uint64_t octets, uint64_t count);
+static uint32_t sedge_commander_stored_at(uint64_t commander, uint64_t count);
+static uint32_t sedge_commander_telemetry_at(uint64_t commander, uint64_t octets, uint64_t count, uint64_t heard);
+static uint32_t sedge_commander_tick_at(uint64_t commander);
+static uint32_t sedge_commander_unstored_at(uint64_t commander, uint64_t out, uint64_t room, uint64_t count);
 static uint32_t sedge_ground_advance_at(uint64_t ground);
 static uint32_t sedge_ground_bypass_at(uint64_t ground, uint32_t map, uint64_t octets, uint64_t count);
 static uint32_t sedge_ground_clcw_at(uint64_t ground, uint64_t octets, uint64_t count, uint64_t heard);
@@ -853,6 +919,9 @@ static uint32_t sedge_spacecraft_take_at(uint64_t spacecraft, uint64_t map, uint
     count);
 static uint32_t sedge_spacecraft_take_bypass_at(uint64_t spacecraft, uint64_t map, uint64_t out, uint64_t room,
     uint64_t count);
+static uint32_t sedge_commander_take_telemetry_at(uint64_t commander, uint64_t out, uint64_t room, uint64_t count);
+static uint32_t sedge_commander_told_at(uint64_t commander, uint64_t action);
+static uint32_t sedge_commander_progress_at(uint64_t commander, uint32_t number, uint64_t progress);
 static uint32_t sedge_ground_accepted_beyond_at(uint64_t ground, uint32_t value, uint64_t accepted);
 static uint32_t sedge_ground_clcw_in_at(uint64_t ground, uint64_t octets, uint64_t count, uint64_t word);
 static uint32_t sedge_ground_known_on_board_at(uint64_t ground, uint32_t value, uint64_t whole);
@@ -976,13 +1045,1456 @@ l1:;
     v26 = 0;
     if ((v23 & 1) != 0) {
         v27 = (uint64_t)get8(v20) << 3;
-        v26 = get64(v27 + address(switch_table_sedge_config_fault_419));
+        v26 = get64(v27 + address(switch_table_sedge_config_fault_513));
         v25 = address(switch_table_sedge_config_fault[v27 / 8]);
         v24 = 1;
     }
     put64(p0, v24);
     put64(p0 + 16, v26);
     put64(p0 + 8, v25);
+    return;
+}
+
+/* command_log::crc::check_after, crates/command_log/src/crc.rt:20 */
+static uint32_t command_log_crc_check_after(uint32_t p0, uint64_t p1, uint64_t p2)
+{
+    uint32_t v2, v4, t1, v5, v3, v6, t2, v7, v8, v9, v10, v11;
+    uint64_t p2_now, p1_now;
+    p2_now = p2;
+    p1_now = p1;
+    if (p2_now == 0) return p0;
+    v2 = ~p0;
+    do {
+        v4 = v2 ^ get8(p1_now);
+        t1 = ((v4 & 1) != 0) ? 0xedb88320U : 0U;
+        v5 = v4 >> 1;
+        v3 = (t1 ^ v5) >> 1;
+        v6 = (v3 ^ (((v5 & 1) != 0) ? 0xedb88320U : 0U)) >> 1;
+        t2 = ((v6 & 1) != 0) ? 0xedb88320U : 0U;
+        v7 = ((((v3 & 1) != 0) ? 0xedb88320U : 0U) ^ v6) >> 1;
+        v8 = (t2 ^ v7) >> 1;
+        v9 = ((((v7 & 1) != 0) ? 0xedb88320U : 0U) ^ v8) >> 1;
+        v10 = ((((v8 & 1) != 0) ? 0xedb88320U : 0U) ^ v9) >> 1;
+        v2 = (((v10 & 1) != 0) ? 0xedb88320U : 0U) ^ (((((v9 & 1) != 0) ? 0xedb88320U : 0U) ^ v10) >> 1);
+        p1_now = p1_now + 1;
+        p2_now = p2_now - 1;
+    } while (p2_now != 0);
+    v11 = ~v2;
+    return v11;
+}
+
+/* command_log::record::decode_fields, crates/command_log/src/record.rt:123 */
+static void command_log_record_decode_fields(uint64_t p0, uint64_t p1)
+{
+    uint32_t v3, v4, v5, v6;
+    uint64_t v2, t1;
+    v2 = get64(p1 + 8);
+    v3 = get32(p1 + 16);
+    v4 = get32(p1 + 4);
+    v5 = get8(p1 + 20);
+    v6 = get32(p1);
+    put32(p0 + 9, 0);
+    put32(p0 + 12, 0);
+    put32(p0 + 28, 0);
+    put8(p0 + 8, v5 == 1);
+    put32(p0, rotl32(v6 & 0xff00ff, 24) | (rotl32(v6, 8) & 0xff00ff));
+    put32(p0 + 4, rotl32(v4 & 0xff00ff, 24) | (rotl32(v4, 8) & 0xff00ff));
+    put32(p0 + 24, rotl32(v3 & 0xff00ff, 24) | (rotl32(v3, 8) & 0xff00ff));
+    t1 = (((v2 << 56) | ((v2 & 0xff00) << 40)) | (((v2 & 0xff0000) << 24) | ((v2 & 0xff000000ULL) << 8))) | ((((v2 >>
+        8) & 0xff000000ULL) | ((v2 >> 24) & 0xff0000)) | (((v2 >> 40) & 0xff00) | (v2 >> 56)));
+    put64(p0 + 16, t1);
+    return;
+}
+
+/* command_ledger::state::State::apply, crates/command_ledger/src/state.rt:371 */
+static uint32_t command_ledger_state_State_apply(uint64_t p0, uint64_t p1)
+{
+    unsigned char frame_octets[80 + 15];
+    uint32_t v15, v7, v16, v17, v18, v19, v20, v21, v40, v22, v23, v24, v41, v9, v42, v43, v44, v25, v45, v46, v47,
+        v54, t5, v57, v66, v67, v68, v69, v70, v71, v82, v83, v84, v85, v87, v88, v99, v100, v101, v108, v109, v110,
+        t6, v120, v139, t1;
+    uint64_t v2, v5, v13, v8, v6, v48, v3, v14, v12, v4, v26, v11, v10, v49, v50, t3, v51, v52, v53, v55, v27, v56,
+        v28, v58, v59, v60, v61, v62, v63, v64, v65, v72, v73, v74, v75, v76, v77, v78, v79, v80, v81, v29, v86, v89,
+        v30, v31, v32, v33, v34, v35, v36, v90, v37, v91, v92, v93, v94, v95, v96, v97, v98, v102, v103, v104, v38,
+        v39, v105, v106, v107, v111, v112, v113, v114, v115, v116, v117, v118, v119, v121, v122, v123, v124, v125,
+        v126, v127, v128, v129, v130, v131, v132, v133, v134, v135, v136, v137, v138, v140, v141, v142, v143, v144,
+        v145, v146, v147, v148, v149, v150, v151, v152, v153, v154, v155, v156, v157, v158, t2, v159;
+    v2 = aligned(frame_octets);
+    switch ((uint32_t)(uint64_t)get8(p1)) {
+    case 1:
+        v5 = p1 + 8;
+        v13 = p0 + 56;
+        if (get8(v13) == 1 && get32(p0 + 64) <= get32(v5)) {
+            v15 = get32(p0 + 68);
+            v7 = get32(p0 + 40);
+            v16 = v15 > v7;
+            v17 = get32(p0 + 48);
+            v18 = get8(p0 + 44);
+            v19 = 0;
+            v20 = 0;
+            if (get8(p0 + 52) == 1) v20 = (v18 & 255) != 1 || v17 != get32(p0 + 60);
+            v21 = (v16 != 0) ? v15 : v7;
+            put32(v2 + 56, 0);
+            put64(v2 + 48, 0);
+            v40 = 0;
+            v22 = 0;
+        } else {
+            put64(v2 + 48, get64(p0 + 60));
+            put32(v2 + 56, get32(p0 + 68));
+            v22 = get8(v13);
+            v18 = get32(p0 + 44);
+            v20 = get8(p0 + 52);
+            v19 = get8(p0 + 16);
+            v17 = get32(p0 + 48);
+            v21 = get32(p0 + 40);
+            v40 = get32(p0 + 32);
+            v15 = get32(p0 + 12);
+        }
+        v23 = 0;
+        v24 = get32(p0);
+        v8 = get64(p0 + 80);
+        v41 = get32(p1 + 12);
+        v9 = v41 + 1;
+        v42 = (get8(p1 + 16) != 0) ? ((v9 != 0) ? v9 : ~0U) : v41;
+        if ((v24 + (uint32_t)v8) >= v42) {
+            v43 = v15 + 1;
+            v44 = ((v19 & 1) != 0) ? ((v43 != 0) ? v43 : ~0U) : v15;
+            v25 = v44 - v24;
+            v45 = (v25 > v44) ? 0U : v25;
+            v46 = v42 - v24;
+            v47 = (v46 > v42) ? 0U : v46;
+            if (v45 < v47) {
+                v6 = (uint64_t)v47;
+                v48 = (uint64_t)v45;
+                v3 = (v8 > v48) ? v8 : v48;
+                v14 = 0 - v8;
+                v12 = p0 + 104;
+                v4 = p0 + 72;
+                v26 = p0 + 96;
+                do {
+                    if (v3 == v48) UNREACHABLE;
+                    v11 = get64(v4);
+                    v10 = get64(v12);
+                    if (v48 < (v8 - v10)) {
+                        v11 = v11 + (get64(v26) * 40);
+                        v49 = v48;
+                    } else {
+                        v49 = v14 + v48 + v10;
+                    }
+                    v50 = v11 + (v49 * 40);
+                    t3 = get64(v50 + 8);
+                    v51 = get64(v50 + 16);
+                    v52 = v51 - 4;
+                    v53 = (v52 > v51) ? 0ULL : v52;
+                    v40 = command_log_crc_check_after(v40, t3 + v53, v51 - v53);
+                    v48 = v48 + 1;
+                } while (v6 != v48);
+            }
+            v23 = v40 == get32(p1 + 32);
+        }
+        v54 = v41 - v24;
+        v55 = (uint64_t)((v54 > v41) ? 0U : v54);
+        v27 = (v8 < v55) ? v8 : v55;
+        v56 = v27 + 2;
+        if (v56 > (get64(p0 + 128) - get64(p0 + 120))) {
+            t5 = std_alloc_vec_deque_VecDeque_grow_38ee247ebc2fad84(p0 + 112, v56);
+            if (t5 == 0) return 1;
+        }
+        v28 = p0 + 8;
+        v57 = get32(v5);
+        if (get32(v28) != v57) {
+            v58 = get64(p0 + 112);
+            v59 = get64(p0 + 120);
+            v60 = p0 + 144;
+            v61 = get64(v60);
+            v62 = v59 - v61;
+            v63 = get64(p0 + 136);
+            if (v62 < (get64(p0 + 128) - v63)) {
+                v64 = v58 + ((v63 + v62) << 4);
+                put32(v64, 2);
+                put64(v64 + 8, 0);
+                put32(v64 + 4, v57);
+            } else {
+                v65 = v58 + (v61 << 4);
+                put32(v65, 2);
+                put64(v65 + 8, 0);
+                put32(v65 + 4, v57);
+                put64(v60, v61 + 1);
+            }
+            put64(p0 + 120, v59 + 1);
+        }
+        v66 = get8(p1 + 16);
+        v67 = get32(p1 + 12);
+        if (v23 == 0) {
+            v68 = v15 + 1;
+            v69 = (((v19 & 1) != 0) ? ((v68 != 0) ? v68 : ~0U) : v15) + 1;
+            v70 = (v69 != 0) ? v69 : ~0U;
+            v71 = v67 + 1;
+            v72 = (uint64_t)(((v66 & 1) != 0) ? ((v71 != 0) ? v71 : ~0U) : v67);
+            v73 = get64(p0 + 112);
+            v74 = get64(p0 + 120);
+            v75 = p0 + 144;
+            v76 = get64(v75);
+            v77 = v74 - v76;
+            v78 = get64(p0 + 136);
+            if (v77 < (get64(p0 + 128) - v78)) {
+                v79 = v73 + ((v78 + v77) << 4);
+                put32(v79, 4);
+                put64(v79 + 8, v72);
+                put32(v79 + 4, v70);
+            } else {
+                v80 = v73 + (v76 << 4);
+                put32(v80, 4);
+                put64(v80 + 8, v72);
+                put32(v80 + 4, v70);
+                put64(v75, v76 + 1);
+            }
+            put64(p0 + 120, v74 + 1);
+            v66 = get8(p1 + 16);
+            v67 = get32(p1 + 12);
+        }
+        put64(v2 + 16, get64(v5));
+        put64(v2 + 24, get64(v5 + 8));
+        put64(v2 + 32, get64(v5 + 16));
+        put64(v2 + 40, get64(v5 + 24));
+        v81 = p0 + 80;
+        v82 = get32(v81);
+        v83 = v67 + 1;
+        v84 = ((v66 & 1) != 0) ? ((v83 != 0) ? v83 : ~0U) : v67;
+        v85 = (v23 != 0) ? v21 : ((v84 > v21) ? v84 : v21);
+        v29 = p0 + 152;
+        v86 = get64(v29);
+        if (v27 == 0) goto l37;
+        v87 = ~v24;
+        v88 = v24 + 1;
+        v89 = p0 + 104;
+        v30 = p0 + 96;
+        v31 = p0 + 72;
+        v32 = p1 + 12;
+        v33 = p1 + 24;
+        v34 = p0 + 136;
+        v35 = p0 + 128;
+        v36 = p0 + 144;
+        v90 = p0 + 120;
+        v37 = p0 + 112;
+        v91 = v27;
+        do {
+            v92 = get64(v81);
+            if (v92 == 0) UNREACHABLE;
+            if (get64(v89) != v92) {
+                v93 = get64(v30);
+            } else {
+                v93 = 0;
+                put64(v89, 0);
+            }
+            put64(v81, v92 - 1);
+            put64(v30, v93 + 1);
+            v94 = get64(v31) + (v93 * 40);
+            v95 = get64(v94 + 24);
+            v96 = get64(v94 + 16);
+            v97 = get64(v94 + 8);
+            v98 = get64(v94);
+            if (v85 < v88) {
+                v99 = get32(v32);
+                if (v88 <= v99) {
+                    v100 = v87 + v99;
+                    if (v100 <= 63) {
+                        v101 = 0;
+                        if (((uint32_t)(get64(v33) >> ((uint64_t)v100 & 63)) & 1) != 0) goto l41;
+                    }
+                }
+            }
+            v101 = 1;
+        l41:;
+            v102 = get64(v37);
+            v103 = get64(v90);
+            v104 = get64(v36);
+            v38 = v103 - v104;
+            v39 = get64(v34);
+            if (v38 < (get64(v35) - v39)) {
+                v105 = v102 + ((v39 + v38) << 4);
+                put32(v105, v101);
+                put64(v105 + 8, v98);
+                put32(v105 + 4, 0);
+            } else {
+                v106 = v102 + (v104 << 4);
+                put32(v106, v101);
+                put64(v106 + 8, v98);
+                put32(v106 + 4, 0);
+                put64(v36, v104 + 1);
+            }
+            put64(v90, v103 + 1);
+            v107 = v86 - v96 - 18;
+            v108 = v107 > v86;
+            if (v95 != 0) rattle_dealloc_at(v97);
+            v86 = (v108 != 0) ? 0ULL : v107;
+            v87 = v87 - 1;
+            v88 = v88 + 1;
+            v91 = v91 - 1;
+        } while (v91 != 0);
+    l37:;
+        put32(p0 + 4, 0);
+        put32(p0, ((v24 + v82) < v84) ? v84 : (v24 + (uint32_t)v27));
+        put64(v28, get64(v2 + 16));
+        put64(v28 + 8, get64(v2 + 24));
+        put64(v28 + 16, get64(v2 + 32));
+        put64(v28 + 24, get64(v2 + 40));
+        put32(p0 + 52, 0);
+        v109 = v20 & 1;
+        put32(p0 + 48, (v109 != 0) ? 0U : v17);
+        put32(p0 + 44, (v109 != 0) ? 0U : (v18 & 255));
+        put32(p0 + 40, v85);
+        put64(p0 + 60, get64(v2 + 48));
+        put32(p0 + 68, get32(v2 + 56));
+        put64(v29, v86);
+        put32(p0 + 56, v22);
+        return 0;
+    case 2:
+        v110 = get32(p1 + 4);
+        v111 = get64(p0 + 128);
+        v112 = get64(p0 + 120);
+        if (v111 == v112) {
+            t6 = std_alloc_vec_deque_VecDeque_grow_38ee247ebc2fad84(p0 + 112, 1);
+            if (t6 == 0) return 1;
+            v111 = get64(p0 + 128);
+            v112 = get64(p0 + 120);
+        }
+        v113 = get64(p0 + 112);
+        v114 = p0 + 144;
+        v115 = get64(v114);
+        v116 = v112 - v115;
+        v117 = get64(p0 + 136);
+        if (v116 < (v111 - v117)) {
+            v118 = v113 + ((v117 + v116) << 4);
+            put32(v118, 3);
+            put64(v118 + 8, 0);
+            put32(v118 + 4, v110);
+        } else {
+            v119 = v113 + (v115 << 4);
+            put32(v119, 3);
+            put64(v119 + 8, 0);
+            put32(v119 + 4, v110);
+            put64(v114, v115 + 1);
+        }
+        put8(p0 + 52, 1);
+        put32(p0 + 48, v110);
+        put32(p0 + 44, 1);
+        put64(p0 + 120, v112 + 1);
+        return 0;
+    case 3:
+        v120 = get32(p1 + 12);
+        v121 = get64(p1 + 4);
+        put32(p0 + 56, 1);
+        put64(p0 + 60, v121);
+        put32(p0 + 68, v120);
+        return 0;
+    case 4:
+        v122 = get64(p0 + 120);
+        if (v122 == 0) return 0;
+        v123 = p0 + 144;
+        if (get64(v123) != v122) {
+            v124 = get64(p0 + 136) + 1;
+        } else {
+            put64(v123, 0);
+            v124 = 1;
+        }
+        put64(p0 + 120, v122 - 1);
+        put64(p0 + 136, v124);
+        return 0;
+    case 5:
+        copy(p0, p1 + 8, 72);
+        v125 = p0 + 80;
+        v126 = get64(v125);
+        if (v126 != 0) {
+            v127 = get64(p0 + 104);
+            v128 = get64(p0 + 96);
+            put64(v125, 0);
+            v129 = get64(p0 + 88);
+            put64(v125 + 8, 0);
+            put64(v125 + 16, 0);
+            put64(v125 + 24, 0);
+            v130 = get64(p0 + 72);
+            v131 = v126 - v127;
+            if (v128 < (v128 + v131)) {
+                v132 = ((v128 * 40) + v130) + 24;
+                do {
+                    if (get64(v132) != 0) rattle_dealloc_at(get64(v132 - 16));
+                    v132 = v132 + 40;
+                    v131 = v131 - 1;
+                } while (v131 != 0);
+            }
+            if (v127 != 0) {
+                v133 = v130 + 24;
+                do {
+                    if (get64(v133) != 0) rattle_dealloc_at(get64(v133 - 16));
+                    v133 = v133 + 40;
+                    v127 = v127 - 1;
+                } while (v127 != 0);
+            }
+            put64(p0 + 104, 0);
+            put64(p0 + 96, v128);
+            put64(p0 + 88, v129);
+            put64(p0 + 80, 0);
+            put64(p0 + 72, v130);
+        }
+        v134 = p0 + 120;
+        if (get64(v134) != 0) {
+            put64(p0 + 144, 0);
+            put64(v134, 0);
+        }
+        put64(p0 + 152, 0);
+        return 0;
+    default:
+        break;
+    }
+    v135 = get64(p1 + 24);
+    v136 = (uint64_t)get8(p1 + 16);
+    v137 = get64(p1 + 8);
+    v138 = get64(p1 + 32);
+    v139 = v138 == 0;
+    if (v139 != 0) {
+        v140 = v2 + 79;
+    } else {
+        if (v138 > 0x7fffffffffffffffULL) return 1;
+        rattle_alloc_at(v2, v138, 1);
+        if (((uint32_t)get64(v2) & 1) == 0) return 1;
+        v140 = get64(v2 + 8);
+    }
+    if ((v140 - v135) < v138) {
+        v141 = v138 & 3;
+        v142 = 0;
+        if (v138 >= 4) {
+            v143 = v138 & ~3ULL;
+            do {
+                v144 = v140 + v142;
+                v145 = v135 + v142;
+                put8(v144, get8(v145));
+                put8(v144 + 1, get8(v145 + 1));
+                put8(v144 + 2, get8(v145 + 2));
+                put8(v144 + 3, get8(v145 + 3));
+                v142 = v142 + 4;
+            } while (v143 != v142);
+            if (v141 == 0) goto l13;
+        }
+        v146 = v140 + v142;
+        v147 = v135 + v142;
+        do {
+            put8(v146, get8(v147));
+            v146 = v146 + 1;
+            v147 = v147 + 1;
+            v141 = v141 - 1;
+        } while (v141 != 0);
+    } else if (v139 == 0) copy(v140, v135, v138);
+l13:;
+    v148 = get64(p0 + 88);
+    v149 = get64(p0 + 80);
+    if (v148 == v149) {
+        t1 = std_alloc_vec_deque_VecDeque_grow_c568a10ff55b2fe1(p0 + 72);
+        if (t1 == 0) {
+            if (v139 != 0) return 1;
+            rattle_dealloc_at(v140);
+            return 1;
+        }
+        v148 = get64(p0 + 88);
+        v149 = get64(p0 + 80);
+    }
+    v150 = get64(p0 + 72);
+    v151 = p0 + 104;
+    v152 = get64(v151);
+    v153 = v149 - v152;
+    v154 = get64(p0 + 96);
+    if (v153 < (v148 - v154)) {
+        v155 = v150 + ((v154 + v153) * 40);
+        put64(v155 + 32, v136);
+        put64(v155 + 24, v138);
+        put64(v155 + 16, v138);
+        put64(v155 + 8, v140);
+        put64(v155, v137);
+    } else {
+        v156 = v150 + (v152 * 40);
+        put64(v156 + 32, v136);
+        put64(v156 + 24, v138);
+        put64(v156 + 16, v138);
+        put64(v156 + 8, v140);
+        put64(v156, v137);
+        put64(v151, v152 + 1);
+    }
+    put64(p0 + 80, v149 + 1);
+    v157 = p0 + 152;
+    v158 = v138 + 18;
+    t2 = v157;
+    v159 = v158 + get64(v157);
+    put64(t2, (v159 < v158) ? ~0ULL : v159);
+    return 0;
+}
+
+static uint32_t std_alloc_vec_deque_VecDeque_grow_c568a10ff55b2fe1(uint64_t p0)
+{
+    unsigned char frame_octets[80 + 15];
+    uint32_t v2;
+    uint64_t v1, v3, v4, v5, v22, v23, v24, v6, v7, v25, v8, v15, v16, v17, v18, v19, v26, v20, v11, v12, v21, v27,
+        v28, v13, v9, v14, v10, v29, v30, v31, v32, v33, v34, v35, v36, v37, v38, v39, v40, v41, v42, v43, v44, v45,
+        v46, v47, v48, v49, v50, v51, v52, v53, v54, v55, v56, v57, v58, v59, v60, v61, v62, v63, v64, v65, v66, v67,
+        v68, v69, v70, v71, v72, v73, v74, v75, v76, v77, v78, v79, v80, v81, v82, v83, v84, v85, v86, v87, v88, v89,
+        v90, v91, v92, v93, v94, v95, v96, v97, v98, v99, v100, v101, v102, v103, v104, v105, v106, v107, v108, v109,
+        v110, v111;
+    v1 = aligned(frame_octets);
+    v3 = get64(p0 + 8);
+    if (get64(p0 + 16) != v3) return 1;
+    v4 = p0 + 24;
+    if (get64(v4) == 0) {
+        v5 = get64(p0);
+        put64(v1 + 72, v3);
+        put64(v1 + 64, v3);
+        put64(v1 + 56, v5);
+        v2 = std_alloc_vec_Vec_grow_amortized_c568a10ff55b2fe1(v1 + 56);
+        v22 = get64(v1 + 56);
+        v23 = get64(v1 + 64);
+        put64(p0 + 16, get64(v1 + 72));
+        put64(p0 + 8, v23);
+        put64(p0, v22);
+        put64(v4, 0);
+        put64(v4 + 8, 0);
+        return v2;
+    }
+    if (v3 == ~0ULL) return 0;
+    v24 = ((v3 > 3) ? v3 : 3ULL) + 1;
+    v6 = v3 << 1;
+    v7 = (v24 > v6) ? v24 : v6;
+    v25 = (v3 < 0x4000000000000000ULL) ? v7 : v24;
+    if (get64(p0 + 32) > (v25 - v3)) {
+        if (v25 > 0x333333333333333ULL) return 0;
+        rattle_alloc_at(v1 + 8, v25 * 40, 8);
+        if ((get32(v1 + 8) & 1) == 0) return 0;
+        v8 = get64(v1 + 16);
+        v15 = get64(p0);
+        v16 = get64(p0 + 24) * 40;
+        v17 = v15 + v16;
+        v18 = get64(p0 + 8);
+        v19 = get64(p0 + 32);
+        v26 = v18 - v19;
+        v20 = v26 * 40;
+        if ((v8 - v17) < v20) {
+            if (v18 != v19) {
+                v11 = v26 & 3;
+                v12 = 0;
+                if ((v19 - v18) <= ~3ULL) {
+                    v21 = v26 & ~3ULL;
+                    v27 = 0;
+                    do {
+                        v28 = v17 + v27;
+                        v13 = get64(v28);
+                        v9 = get64(v28 + 8);
+                        v14 = get64(v28 + 16);
+                        v10 = get64(v28 + 24);
+                        v29 = v8 + v27;
+                        put64(v29 + 32, get64(v28 + 32));
+                        put64(v29 + 24, v10);
+                        put64(v29 + 16, v14);
+                        put64(v29 + 8, v9);
+                        put64(v29, v13);
+                        v30 = get64(v28 + 40);
+                        v31 = get64(v28 + 48);
+                        v32 = get64(v28 + 56);
+                        v33 = get64(v28 + 64);
+                        put64(v29 + 72, get64(v28 + 72));
+                        put64(v29 + 64, v33);
+                        put64(v29 + 56, v32);
+                        put64(v29 + 48, v31);
+                        put64(v29 + 40, v30);
+                        v34 = get64(v28 + 80);
+                        v35 = get64(v28 + 88);
+                        v36 = get64(v28 + 96);
+                        v37 = get64(v28 + 104);
+                        put64(v29 + 112, get64(v28 + 112));
+                        put64(v29 + 104, v37);
+                        put64(v29 + 96, v36);
+                        put64(v29 + 88, v35);
+                        put64(v29 + 80, v34);
+                        v38 = get64(v28 + 120);
+                        v39 = get64(v28 + 128);
+                        v40 = get64(v28 + 136);
+                        v41 = get64(v28 + 144);
+                        put64(v29 + 152, get64(v28 + 152));
+                        put64(v29 + 144, v41);
+                        put64(v29 + 136, v40);
+                        put64(v29 + 128, v39);
+                        put64(v29 + 120, v38);
+                        v27 = v27 + 160;
+                        v12 = v12 + 4;
+                    } while (v21 != v12);
+                    if (v11 == 0) goto l12;
+                }
+                v42 = v12 * 40;
+                v43 = v8 + v42;
+                v44 = v15 + (v42 + v16);
+                do {
+                    v45 = get64(v44);
+                    v46 = get64(v44 + 8);
+                    v47 = get64(v44 + 16);
+                    v48 = get64(v44 + 24);
+                    put64(v43 + 32, get64(v44 + 32));
+                    put64(v43 + 24, v48);
+                    put64(v43 + 16, v47);
+                    put64(v43 + 8, v46);
+                    put64(v43, v45);
+                    v43 = v43 + 40;
+                    v44 = v44 + 40;
+                    v11 = v11 - 1;
+                } while (v11 != 0);
+            }
+        } else if (v20 != 0) copy(v8, v17, v20);
+    l12:;
+        v49 = v8 + v20;
+        v50 = get64(p0);
+        v51 = get64(p0 + 32);
+        v52 = v51 * 40;
+        if ((v49 - v50) < v52) {
+            if (v51 != 0) {
+                v53 = v51 & 3;
+                v54 = 0;
+                if (v51 >= 4) {
+                    v55 = 0;
+                    v56 = 0 - (v51 & ~3ULL);
+                    v57 = v50;
+                    do {
+                        v58 = get64(v57);
+                        v59 = get64(v57 + 8);
+                        v60 = get64(v57 + 16);
+                        v61 = get64(v57 + 24);
+                        put64(v49 + 32, get64(v57 + 32));
+                        put64(v49 + 24, v61);
+                        put64(v49 + 16, v60);
+                        put64(v49 + 8, v59);
+                        put64(v49, v58);
+                        v62 = get64(v57 + 40);
+                        v63 = get64(v57 + 48);
+                        v64 = get64(v57 + 56);
+                        v65 = get64(v57 + 64);
+                        put64(v49 + 72, get64(v57 + 72));
+                        put64(v49 + 64, v65);
+                        put64(v49 + 56, v64);
+                        put64(v49 + 48, v63);
+                        put64(v49 + 40, v62);
+                        v66 = get64(v57 + 80);
+                        v67 = get64(v57 + 88);
+                        v68 = get64(v57 + 96);
+                        v69 = get64(v57 + 104);
+                        put64(v49 + 112, get64(v57 + 112));
+                        put64(v49 + 104, v69);
+                        put64(v49 + 96, v68);
+                        put64(v49 + 88, v67);
+                        put64(v49 + 80, v66);
+                        v70 = get64(v57 + 120);
+                        v71 = get64(v57 + 128);
+                        v72 = get64(v57 + 136);
+                        v73 = get64(v57 + 144);
+                        put64(v49 + 152, get64(v57 + 152));
+                        put64(v49 + 144, v73);
+                        put64(v49 + 136, v72);
+                        put64(v49 + 128, v71);
+                        put64(v49 + 120, v70);
+                        v49 = v49 + 160;
+                        v57 = v57 + 160;
+                        v55 = v55 - 4;
+                    } while (v56 != v55);
+                    if (v53 == 0) goto l17;
+                    v54 = 0 - v55;
+                }
+                v74 = v54 * 40;
+                v75 = v8 + ((v74 + (v18 * 40)) - (v19 * 40));
+                v76 = v50 + v74;
+                do {
+                    v77 = get64(v76);
+                    v78 = get64(v76 + 8);
+                    v79 = get64(v76 + 16);
+                    v80 = get64(v76 + 24);
+                    put64(v75 + 32, get64(v76 + 32));
+                    put64(v75 + 24, v80);
+                    put64(v75 + 16, v79);
+                    put64(v75 + 8, v78);
+                    put64(v75, v77);
+                    v75 = v75 + 40;
+                    v76 = v76 + 40;
+                    v53 = v53 - 1;
+                } while (v53 != 0);
+            }
+        } else if (v52 != 0) copy(v49, v50, v52);
+    l17:;
+        rattle_dealloc_at(get64(p0));
+        put64(p0 + 16, v25);
+        put64(p0, v8);
+        put64(v4, 0);
+        put64(v4 + 8, 0);
+        return 1;
+    }
+    if (v25 > 0x333333333333333ULL) return 0;
+    if (v3 != 0) {
+        rattle_realloc_at(v1 + 40, get64(p0), v3 * 40, v25 * 40, 8);
+        if (((uint32_t)get64(v1 + 40) & 1) == 0) return 0;
+        v81 = get64(v1 + 48);
+    } else {
+        rattle_alloc_at(v1 + 24, v7 * 40, 8);
+        if (((uint32_t)get64(v1 + 24) & 1) == 0) return 0;
+        v81 = get64(v1 + 32);
+    }
+    v82 = get64(p0 + 8) * 40;
+    v83 = get64(p0 + 32);
+    v84 = v83 * 40;
+    if (v82 < v84) {
+        if (v83 != 0) {
+            v85 = v83 & 3;
+            v86 = 0;
+            if (v83 >= 4) {
+                v87 = v83 & ~3ULL;
+                v88 = v81;
+                do {
+                    v89 = get64(v88);
+                    v90 = get64(v88 + 8);
+                    v91 = get64(v88 + 16);
+                    v92 = get64(v88 + 24);
+                    v93 = v88 + v82;
+                    put64(v93 + 32, get64(v88 + 32));
+                    put64(v93 + 24, v92);
+                    put64(v93 + 16, v91);
+                    put64(v93 + 8, v90);
+                    put64(v93, v89);
+                    v94 = get64(v88 + 40);
+                    v95 = get64(v88 + 48);
+                    v96 = get64(v88 + 56);
+                    v97 = get64(v88 + 64);
+                    put64(v93 + 72, get64(v88 + 72));
+                    put64(v93 + 64, v97);
+                    put64(v93 + 56, v96);
+                    put64(v93 + 48, v95);
+                    put64(v93 + 40, v94);
+                    v98 = get64(v88 + 80);
+                    v99 = get64(v88 + 88);
+                    v100 = get64(v88 + 96);
+                    v101 = get64(v88 + 104);
+                    put64(v93 + 112, get64(v88 + 112));
+                    put64(v93 + 104, v101);
+                    put64(v93 + 96, v100);
+                    put64(v93 + 88, v99);
+                    put64(v93 + 80, v98);
+                    v102 = get64(v88 + 120);
+                    v103 = get64(v88 + 128);
+                    v104 = get64(v88 + 136);
+                    v105 = get64(v88 + 144);
+                    put64(v93 + 152, get64(v88 + 152));
+                    put64(v93 + 144, v105);
+                    put64(v93 + 136, v104);
+                    put64(v93 + 128, v103);
+                    put64(v93 + 120, v102);
+                    v88 = v88 + 160;
+                    v86 = v86 + 4;
+                } while (v87 != v86);
+                if (v85 == 0) goto l7;
+            }
+            v106 = v81 + (v86 * 40);
+            do {
+                v107 = get64(v106);
+                v108 = get64(v106 + 8);
+                v109 = get64(v106 + 16);
+                v110 = get64(v106 + 24);
+                v111 = v106 + v82;
+                put64(v111 + 32, get64(v106 + 32));
+                put64(v111 + 24, v110);
+                put64(v111 + 16, v109);
+                put64(v111 + 8, v108);
+                put64(v111, v107);
+                v106 = v106 + 40;
+                v85 = v85 - 1;
+            } while (v85 != 0);
+        }
+    } else if (v84 != 0) copy(v81 + v82, v81, v84);
+l7:;
+    put64(p0, v81);
+    put64(p0 + 32, 0);
+    put64(p0 + 16, v25);
+    return 1;
+}
+
+static uint32_t std_alloc_vec_deque_VecDeque_grow_38ee247ebc2fad84(uint64_t p0, uint64_t p1)
+{
+    unsigned char frame_octets[80 + 15];
+    uint32_t v3, v27, v12, v29, v30, v33, v34, v46, v47, v49, v50, v53, v54, v68, v69;
+    uint64_t v2, v4, v5, v6, v7, v15, v16, v17, v18, v19, v8, v20, v9, v10, v21, v22, v23, v13, v24, v14, v11, v25,
+        v26, v28, v31, v32, v35, v36, v37, v38, v39, v40, v41, v42, v43, v44, v45, v48, v51, v52, v55, v56, v57, v58,
+        v59, v60, v61, v62, v63, v64, v65, v66, v67, v70;
+    v2 = aligned(frame_octets);
+    v4 = get64(p0 + 16);
+    v5 = get64(p0 + 8);
+    if (p1 <= (v4 - v5)) return 1;
+    v6 = p0 + 24;
+    if (get64(v6) == 0) {
+        v7 = get64(p0);
+        put64(v2 + 72, v4);
+        put64(v2 + 64, v5);
+        put64(v2 + 56, v7);
+        v3 = std_alloc_vec_Vec_grow_amortized_38ee247ebc2fad84(v2 + 56, p1);
+        v15 = get64(v2 + 56);
+        v16 = get64(v2 + 64);
+        put64(p0 + 16, get64(v2 + 72));
+        put64(p0 + 8, v16);
+        put64(p0, v15);
+        put64(v6, 0);
+        put64(v6 + 8, 0);
+        return v3;
+    }
+    if (p1 > ~v5) return 0;
+    v17 = v5 + p1;
+    v18 = (v17 > 4) ? v17 : 4ULL;
+    v19 = v5 << 1;
+    v8 = (v18 > v19) ? v18 : v19;
+    v20 = (v5 < 0x4000000000000000ULL) ? v8 : v18;
+    if (v4 != v5 || get64(p0 + 32) > (v20 - v5)) {
+        if (v20 > 0x7ffffffffffffffULL) return 0;
+        rattle_alloc_at(v2 + 8, v20 << 4, 8);
+        if ((get32(v2 + 8) & 1) == 0) return 0;
+        v9 = get64(v2 + 16);
+        v10 = get64(p0) + (get64(p0 + 24) << 4);
+        v21 = get64(p0 + 8);
+        v22 = get64(p0 + 32);
+        v23 = v21 - v22;
+        v13 = v23 << 4;
+        if ((v9 - v10) < v13) {
+            if (v21 != v22) {
+                v24 = 0;
+                if (v21 != (v22 + 1)) {
+                    v14 = v23 & 1;
+                    v11 = v23 & ~1ULL;
+                    v25 = 0;
+                    do {
+                        v26 = v10 + v25;
+                        v27 = get8(v26);
+                        v12 = get32(v26 + 4);
+                        v28 = v9 + v25;
+                        put64(v28 + 8, get64(v26 + 8));
+                        put32(v28 + 4, v12);
+                        put32(v28, v27);
+                        v29 = get8(v26 + 16);
+                        v30 = get32(v26 + 20);
+                        put64(v28 + 24, get64(v26 + 24));
+                        put32(v28 + 20, v30);
+                        put32(v28 + 16, v29);
+                        v25 = v25 + 32;
+                        v24 = v24 + 2;
+                    } while (v11 != v24);
+                    if (v14 == 0) goto l11;
+                }
+                v31 = v24 << 4;
+                v32 = v10 + v31;
+                v33 = get8(v32);
+                v34 = get32(v32 + 4);
+                v35 = v9 + v31;
+                put64(v35 + 8, get64(v32 + 8));
+                put32(v35 + 4, v34);
+                put32(v35, v33);
+            }
+        } else if (v13 != 0) copy(v9, v10, v13);
+    l11:;
+        v36 = v9 + v13;
+        v37 = get64(p0);
+        v38 = get64(p0 + 32);
+        v39 = v38 << 4;
+        if ((v36 - v37) < v39) {
+            if (v38 != 0) {
+                v40 = 0;
+                if (v38 != 1) {
+                    v41 = v38 & 1;
+                    v42 = 0;
+                    v43 = 0 - (v38 & ~1ULL);
+                    v44 = 0;
+                    do {
+                        v45 = v37 + v44;
+                        v46 = get8(v45);
+                        v47 = get32(v45 + 4);
+                        v48 = v36 + v44;
+                        put64(v48 + 8, get64(v45 + 8));
+                        put32(v48 + 4, v47);
+                        put32(v48, v46);
+                        v49 = get8(v45 + 16);
+                        v50 = get32(v45 + 20);
+                        put64(v48 + 24, get64(v45 + 24));
+                        put32(v48 + 20, v50);
+                        put32(v48 + 16, v49);
+                        v44 = v44 + 32;
+                        v42 = v42 - 2;
+                    } while (v43 != v42);
+                    if (v41 == 0) goto l15;
+                    v40 = 0 - v42;
+                }
+                v51 = v40 << 4;
+                v52 = v37 + v51;
+                v53 = get8(v52);
+                v54 = get32(v52 + 4);
+                v55 = v36 + v51;
+                put64(v55 + 8, get64(v52 + 8));
+                put32(v55 + 4, v54);
+                put32(v55, v53);
+            }
+        } else if (v39 != 0) copy(v36, v37, v39);
+    l15:;
+        rattle_dealloc_at(get64(p0));
+        put64(p0 + 16, v20);
+        put64(p0, v9);
+        put64(v6, 0);
+        put64(v6 + 8, 0);
+        return 1;
+    }
+    if (v20 > 0x7ffffffffffffffULL) return 0;
+    if (v5 != 0) {
+        rattle_realloc_at(v2 + 40, get64(p0), v5 << 4, v20 << 4, 8);
+        if (((uint32_t)get64(v2 + 40) & 1) == 0) return 0;
+        v56 = get64(v2 + 48);
+    } else {
+        rattle_alloc_at(v2 + 24, v8 << 4, 8);
+        if (((uint32_t)get64(v2 + 24) & 1) == 0) return 0;
+        v56 = get64(v2 + 32);
+    }
+    v57 = get64(p0 + 8) << 4;
+    v58 = v56 + v57;
+    v59 = get64(p0 + 32);
+    v60 = v59 << 4;
+    if (v57 < v60) {
+        if (v59 != 0) {
+            v61 = 0;
+            if (v59 != 1) {
+                v62 = v59 & 1;
+                v63 = v59 & ~1ULL;
+                v64 = v56;
+                do {
+                    v65 = v64 + v57;
+                    put32(v65, get8(v64));
+                    put64(v65 + 8, get64(v64 + 8));
+                    put32(v65 + 4, get32(v64 + 4));
+                    put32(v65 + 16, get8(v64 + 16));
+                    put64(v65 + 24, get64(v64 + 24));
+                    put32(v65 + 20, get32(v64 + 20));
+                    v64 = v64 + 32;
+                    v61 = v61 + 2;
+                } while (v63 != v61);
+                if (v62 == 0) goto l7;
+            }
+            v66 = v61 << 4;
+            v67 = v56 + v66;
+            v68 = get8(v67);
+            v69 = get32(v67 + 4);
+            v70 = v58 + v66;
+            put64(v70 + 8, get64(v67 + 8));
+            put32(v70 + 4, v69);
+            put32(v70, v68);
+        }
+    } else if (v60 != 0) copy(v58, v56, v60);
+l7:;
+    put64(p0, v56);
+    put64(p0 + 32, 0);
+    put64(p0 + 16, v20);
+    return 1;
+}
+
+static uint32_t std_alloc_vec_Vec_extend_from_slice_916571bd4b2b1111(uint64_t p0, uint64_t p1, uint64_t p2)
+{
+    uint32_t t1;
+    uint64_t v3, v4, v5, v7, v8, v9, v10, v11, v12, v2, v13, v14, v15;
+    v3 = get64(p0 + 16);
+    v4 = p0 + 8;
+    v5 = get64(v4);
+    if (p2 > (v3 - v5)) {
+        t1 = std_alloc_vec_Vec_grow_amortized_8131ac0ff0013ce2(p0, p2);
+        if (t1 == 0) return 1;
+        v3 = get64(p0 + 16);
+        v5 = get64(p0 + 8);
+    }
+    v7 = 0;
+    put64(v4, 0);
+    put64(v4 + 8, 0);
+    v8 = v5 + p2;
+    v9 = get64(p0);
+    v10 = v9 + v5;
+    if ((v10 - p1) < p2) {
+        v11 = p2 & 3;
+        if (p2 >= 4) {
+            v12 = p2 & ~3ULL;
+            do {
+                v2 = v10 + v7;
+                v13 = p1 + v7;
+                put8(v2, get8(v13));
+                put8(v2 + 1, get8(v13 + 1));
+                put8(v2 + 2, get8(v13 + 2));
+                put8(v2 + 3, get8(v13 + 3));
+                v7 = v7 + 4;
+            } while (v12 != v7);
+            if (v11 == 0) goto l3;
+        }
+        v14 = p1 + v7;
+        v15 = v9 + (v5 + v7);
+        do {
+            put8(v15, get8(v14));
+            v15 = v15 + 1;
+            v14 = v14 + 1;
+            v11 = v11 - 1;
+        } while (v11 != 0);
+    } else if (p2 != 0) copy(v10, p1, p2);
+l3:;
+    put64(p0, v9);
+    put64(p0 + 16, v3);
+    put64(p0 + 8, v8);
+    return 0;
+}
+
+static uint32_t std_alloc_vec_Vec_grow_amortized_8131ac0ff0013ce2(uint64_t p0, uint64_t p1)
+{
+    unsigned char frame_octets[32 + 15];
+    uint64_t v2, v4, v7, v8, v5, v6, v9, v10, v11;
+    v2 = aligned(frame_octets);
+    v4 = get64(p0 + 8);
+    if (p1 > ~v4) return 0;
+    v7 = v4 + p1;
+    v8 = (v7 > 8) ? v7 : 8ULL;
+    v5 = get64(p0 + 16);
+    v6 = v5 << 1;
+    v9 = (v8 > v6) ? v8 : v6;
+    v10 = (v5 < 0x4000000000000000ULL) ? v9 : v8;
+    if (v10 > 0x7fffffffffffffffULL) return 0;
+    if (v5 != 0) {
+        rattle_realloc_at(v2 + 16, get64(p0), v4, v10, 1);
+        if (((uint32_t)get64(v2 + 16) & 1) == 0) return 0;
+        v11 = get64(v2 + 24);
+    } else {
+        rattle_alloc_at(v2, v9, 1);
+        if (((uint32_t)get64(v2) & 1) == 0) return 0;
+        v11 = get64(v2 + 8);
+    }
+    put64(p0 + 16, v10);
+    put64(p0, v11);
+    return 1;
+}
+
+static uint32_t std_alloc_vec_Vec_grow_amortized_c568a10ff55b2fe1(uint64_t p0)
+{
+    unsigned char frame_octets[32 + 15];
+    uint64_t v1, v3, v4, v5, v6, v7, v8, v9;
+    v1 = aligned(frame_octets);
+    v3 = get64(p0 + 8);
+    if (v3 == ~0ULL) return 0;
+    v4 = ((v3 > 3) ? v3 : 3ULL) + 1;
+    v5 = get64(p0 + 16);
+    v6 = v5 << 1;
+    v7 = (v4 > v6) ? v4 : v6;
+    v8 = (v5 < 0x4000000000000000ULL) ? v7 : v4;
+    if (v8 > 0x333333333333333ULL) return 0;
+    if (v5 != 0) {
+        rattle_realloc_at(v1 + 16, get64(p0), v3 * 40, v8 * 40, 8);
+        if (((uint32_t)get64(v1 + 16) & 1) == 0) return 0;
+        v9 = get64(v1 + 24);
+    } else {
+        rattle_alloc_at(v1, v7 * 40, 8);
+        if (((uint32_t)get64(v1) & 1) == 0) return 0;
+        v9 = get64(v1 + 8);
+    }
+    put64(p0 + 16, v8);
+    put64(p0, v9);
+    return 1;
+}
+
+static uint32_t std_alloc_vec_Vec_grow_amortized_38ee247ebc2fad84(uint64_t p0, uint64_t p1)
+{
+    unsigned char frame_octets[32 + 15];
+    uint64_t v2, v4, v7, v8, v5, v6, v9, v10, v11;
+    v2 = aligned(frame_octets);
+    v4 = get64(p0 + 8);
+    if (p1 > ~v4) return 0;
+    v7 = v4 + p1;
+    v8 = (v7 > 4) ? v7 : 4ULL;
+    v5 = get64(p0 + 16);
+    v6 = v5 << 1;
+    v9 = (v8 > v6) ? v8 : v6;
+    v10 = (v5 < 0x4000000000000000ULL) ? v9 : v8;
+    if (v10 > 0x7ffffffffffffffULL) return 0;
+    if (v5 != 0) {
+        rattle_realloc_at(v2 + 16, get64(p0), v4 << 4, v10 << 4, 8);
+        if (((uint32_t)get64(v2 + 16) & 1) == 0) return 0;
+        v11 = get64(v2 + 24);
+    } else {
+        rattle_alloc_at(v2, v9 << 4, 8);
+        if (((uint32_t)get64(v2) & 1) == 0) return 0;
+        v11 = get64(v2 + 8);
+    }
+    put64(p0 + 16, v10);
+    put64(p0, v11);
+    return 1;
+}
+
+/* nodes::ground_node::Ground::of, crates/nodes/src/ground_node.rt:81 */
+static void nodes_ground_node_Ground_of(uint64_t p0, uint64_t p1)
+{
+    unsigned char frame_octets[160 + 15];
+    uint32_t v3, v4, v16, v5, v6, v10;
+    uint64_t v2, v7, v8, v9, v11, v12, v13, v14, v15;
+    v2 = aligned(frame_octets);
+    fill(v2 + 74, 0, 78);
+    v3 = get32(p1 + 16);
+    if ((v3 & 255) == 0) {
+        put16(p0, 0x501);
+        fill(p0 + 8, 0, 400);
+        return;
+    }
+    v4 = get32(p1 + 12);
+    if ((v4 & 255) == 0 || (v4 & 1) != 0) {
+        put16(p0, 0x501);
+        fill(p0 + 8, 0, 400);
+        return;
+    }
+    v16 = (v4 >> 1) & 127;
+    if (v16 < (v3 & 255)) {
+        put16(p0, 0x501);
+        fill(p0 + 8, 0, 400);
+        return;
+    }
+    v5 = get32(p1 + 20);
+    if ((v5 & 255) != 0) {
+        v6 = get32(p1 + 24);
+        if ((v6 & 0xffff) != 0) {
+            v7 = (uint64_t)v16;
+            rattle_alloc_at(v2 + 56, v7 << 5, 8);
+            if (((uint32_t)get64(v2 + 56) & 1) != 0) {
+                v8 = get64(v2 + 64);
+                rattle_alloc_at(v2 + 40, 0x10006, 1);
+                if (((uint32_t)get64(v2 + 40) & 1) == 0) {
+                    rattle_dealloc_at(v8);
+                    put16(p0, 0x501);
+                    fill(p0 + 8, 0, 400);
+                    return;
+                }
+                v9 = get64(v2 + 48);
+                v10 = get32(p1 + 56);
+                v11 = (uint64_t)v10;
+                if (v10 == 0) {
+                    v12 = v2 + 152;
+                    v13 = 127;
+                } else {
+                    rattle_alloc_at(v2 + 24, v11 << 5, 8);
+                    if (((uint32_t)get64(v2 + 24) & 1) == 0) {
+                        rattle_dealloc_at(v9);
+                        rattle_dealloc_at(v8);
+                        put16(p0, 0x501);
+                        fill(p0 + 8, 0, 400);
+                        return;
+                    }
+                    v12 = get64(v2 + 32);
+                    v13 = (uint64_t)get32(p1 + 56) + 127;
+                }
+                rattle_alloc_at(v2 + 8, v13 << 3, 8);
+                if (((uint32_t)get64(v2 + 8) & 1) == 0) {
+                    if (v10 != 0) rattle_dealloc_at(v12);
+                    rattle_dealloc_at(v9);
+                    rattle_dealloc_at(v8);
+                    put16(p0, 0x501);
+                    fill(p0 + 8, 0, 400);
+                    return;
+                }
+                v14 = get64(v2 + 16);
+                v15 = v2 + 80;
+                copy(v15, p1, 72);
+                put16(p0, 0);
+                copy(p0 + 8, v15, 72);
+                put32(p0 + 82, 0);
+                put8(p0 + 81, 5);
+                put8(p0 + 80, v16);
+                put8(p0 + 86, 0);
+                put64(p0 + 97, 0);
+                put8(p0 + 96, 1);
+                put32(p0 + 92, 0);
+                put16(p0 + 90, v6);
+                put8(p0 + 89, 0);
+                put8(p0 + 88, v5);
+                put8(p0 + 87, v3);
+                put64(p0 + 105, 0);
+                put64(p0 + 113, 0);
+                put64(p0 + 121, 0);
+                put64(p0 + 129, 0);
+                put64(p0 + 136, 0);
+                put64(p0 + 152, v7);
+                put64(p0 + 144, v8);
+                put64(p0 + 160, 0);
+                put64(p0 + 168, 0);
+                put64(p0 + 208, 0);
+                put64(p0 + 200, 0);
+                put64(p0 + 192, 0);
+                put64(p0 + 184, 0);
+                put64(p0 + 232, v11);
+                put64(p0 + 224, 0);
+                put64(p0 + 216, v12);
+                put64(p0 + 256, 0);
+                put64(p0 + 248, 0);
+                put64(p0 + 240, 0);
+                put64(p0 + 280, v13);
+                put64(p0 + 272, 0);
+                put64(p0 + 264, v14);
+                put64(p0 + 312, 0);
+                put64(p0 + 304, 0);
+                put64(p0 + 296, 0);
+                put64(p0 + 288, 0);
+                put64(p0 + 176, v2 + 152);
+                put64(p0 + 336, 0x10006);
+                put64(p0 + 328, 0);
+                put64(p0 + 320, v9);
+                put64(p0 + 352, 0);
+                put64(p0 + 360, 0);
+                put64(p0 + 368, 0);
+                put64(p0 + 376, 0);
+                put64(p0 + 392, 0);
+                put64(p0 + 400, 0);
+                put64(p0 + 344, v2 + 152);
+                put64(p0 + 384, v2 + 152);
+                return;
+            }
+        }
+    }
+    put16(p0, 0x501);
+    fill(p0 + 8, 0, 400);
+    return;
+}
+
+static void circular_buffer_heap_HeapCircularBuffer_drop_695a0d5c0a17370d(uint64_t p0)
+{
+    uint64_t v1, v2, v3, v8, v4, v5, v6, v7, v9, v10, v11, v12;
+    v1 = get64(p0);
+    v2 = get64(p0 + 16);
+    if (v2 != 0) {
+        v3 = get64(p0 + 8);
+        v8 = get64(p0 + 24);
+        v4 = (v8 < v3) ? 0ULL : v3;
+        v5 = v8 - v4;
+        v6 = v3 - v5;
+        v7 = (v6 < v2) ? v6 : v2;
+        if (v3 != v5) {
+            v9 = (v1 + ((v8 << 5) - (v4 << 5))) + 24;
+            v10 = v7;
+            do {
+                if (get64(v9) != 0) rattle_dealloc_at(get64(v9 - 16));
+                v9 = v9 + 32;
+                v10 = v10 - 1;
+            } while (v10 != 0);
+        }
+        if (v2 > v6) {
+            v11 = v2 - v7;
+            v12 = v1 + 24;
+            do {
+                if (get64(v12) != 0) rattle_dealloc_at(get64(v12 - 16));
+                v12 = v12 + 32;
+                v11 = v11 - 1;
+            } while (v11 != 0);
+        }
+    }
+    rattle_dealloc_at(v1);
+    return;
+}
+
+static void std_alloc_vec_deque_VecDeque_drop_695a0d5c0a17370d(uint64_t p0)
+{
+    uint64_t v1, v2, v3, v4, v5, v6, v7, v8;
+    v1 = get64(p0 + 16);
+    v2 = get64(p0);
+    v3 = get64(p0 + 8);
+    if (v3 != 0) {
+        v4 = get64(p0 + 24);
+        v5 = get64(p0 + 32);
+        v6 = v3 - v5;
+        if (v4 < (v4 + v6)) {
+            v7 = ((v4 << 5) + v2) + 24;
+            do {
+                if (get64(v7) != 0) rattle_dealloc_at(get64(v7 - 16));
+                v7 = v7 + 32;
+                v6 = v6 - 1;
+            } while (v6 != 0);
+        }
+        if (v5 != 0) {
+            v8 = v2 + 24;
+            do {
+                if (get64(v8) != 0) rattle_dealloc_at(get64(v8 - 16));
+                v8 = v8 + 32;
+                v5 = v5 - 1;
+            } while (v5 != 0);
+        }
+    }
+    if (v1 == 0) return;
+    rattle_dealloc_at(v2);
+    return;
+}
+
+static void sedgechisel_nodes_commander_commander_Commander_Destruct_drop(uint64_t p0)
+{
+    unsigned char frame_octets[400 + 15];
+    uint64_t v1, v2, v3, v4, v5, v6, v7, v8, v9, v10, v11, v12, v13;
+    v1 = aligned(frame_octets);
+    v2 = get64(p0 + 584);
+    v3 = get64(p0 + 568);
+    v4 = get64(p0 + 536);
+    v5 = get64(p0 + 520);
+    v6 = get64(p0 + 512);
+    v7 = get64(p0 + 504);
+    v8 = get64(p0 + 496);
+    v9 = get64(p0 + 480);
+    v10 = get64(p0 + 488);
+    copy(v1, p0, 400);
+    sedgechisel_nodes_nodes_ground_node_Ground_Destruct_drop(v1);
+    if (v10 != 0) {
+        v11 = v10 - v6;
+        if (v7 < (v11 + v7)) {
+            v12 = ((v7 * 40) + v9) + 24;
+            do {
+                if (get64(v12) != 0) rattle_dealloc_at(get64(v12 - 16));
+                v12 = v12 + 40;
+                v11 = v11 - 1;
+            } while (v11 != 0);
+        }
+        if (v6 != 0) {
+            v13 = v9 + 24;
+            do {
+                if (get64(v13) != 0) rattle_dealloc_at(get64(v13 - 16));
+                v13 = v13 + 40;
+                v6 = v6 - 1;
+            } while (v6 != 0);
+        }
+    }
+    if (v8 != 0) rattle_dealloc_at(v9);
+    if (v4 != 0) rattle_dealloc_at(v5);
+    if (v2 == 0) return;
+    rattle_dealloc_at(v3);
+    return;
+}
+
+static void sedgechisel_nodes_nodes_ground_node_Ground_Destruct_drop(uint64_t p0)
+{
+    uint64_t v1, v2, v3, v4, v5, v6, v7, v8, v9, v10, v11, v12, v13, v14, v15, v16, v17, v18, v19, v20, v21, v22, v23,
+        v24, v25, v26, v27, v30, v28, v29, v31, v32, v33, v34, v35, v36, v37, v38, v39, v40, v41, v42, v43, v44;
+    v1 = get64(p0 + 392);
+    v2 = get64(p0 + 384);
+    v3 = get64(p0 + 376);
+    v4 = get64(p0 + 368);
+    v5 = get64(p0 + 360);
+    v6 = get64(p0 + 352);
+    v7 = get64(p0 + 344);
+    v8 = get64(p0 + 336);
+    v9 = get64(p0 + 328);
+    v10 = get64(p0 + 312);
+    v11 = get64(p0 + 272);
+    v12 = get64(p0 + 256);
+    v13 = get64(p0 + 240);
+    v14 = get64(p0 + 232);
+    v15 = get64(p0 + 224);
+    v16 = get64(p0 + 216);
+    v17 = get64(p0 + 208);
+    v18 = get64(p0 + 200);
+    v19 = get64(p0 + 192);
+    v20 = get64(p0 + 184);
+    v21 = get64(p0 + 176);
+    v22 = get64(p0 + 168);
+    v23 = get64(p0 + 160);
+    v24 = get64(p0 + 152);
+    v25 = get64(p0 + 144);
+    v26 = get64(p0 + 136);
+    if (get8(p0 + 96) != 0 && get64(p0 + 128) != 0) rattle_dealloc_at(get64(p0 + 112));
+    if (v24 != 0) {
+        v27 = (v23 < v25) ? 0ULL : v25;
+        v30 = v23 - v27;
+        v28 = v25 - v30;
+        v29 = (v28 < v24) ? v28 : v24;
+        if (v25 != v30) {
+            v31 = (v26 + ((v23 << 5) - (v27 << 5))) + 24;
+            v32 = v29;
+            do {
+                if (get64(v31) != 0) rattle_dealloc_at(get64(v31 - 16));
+                v31 = v31 + 32;
+                v32 = v32 - 1;
+            } while (v32 != 0);
+        }
+        if (v24 > v28) {
+            v33 = v24 - v29;
+            v34 = v26 + 24;
+            do {
+                if (get64(v34) != 0) rattle_dealloc_at(get64(v34 - 16));
+                v34 = v34 + 32;
+                v33 = v33 - 1;
+            } while (v33 != 0);
+        }
+    }
+    rattle_dealloc_at(v26);
+    if (v21 != 0) {
+        v35 = v21 - v18;
+        if (v19 < (v35 + v19)) {
+            v36 = ((v19 << 5) + v22) + 24;
+            do {
+                if (get64(v36) != 0) rattle_dealloc_at(get64(v36 - 16));
+                v36 = v36 + 32;
+                v35 = v35 - 1;
+            } while (v35 != 0);
+        }
+        if (v18 != 0) {
+            v37 = v22 + 24;
+            do {
+                if (get64(v37) != 0) rattle_dealloc_at(get64(v37 - 16));
+                v37 = v37 + 32;
+                v18 = v18 - 1;
+            } while (v18 != 0);
+        }
+    }
+    if (v20 != 0) rattle_dealloc_at(v22);
+    if (v16 != 0) {
+        v38 = v16 - v13;
+        if (v14 < (v38 + v14)) {
+            v39 = ((v14 << 5) + v17) + 24;
+            do {
+                if (get64(v39) != 0) rattle_dealloc_at(get64(v39 - 16));
+                v39 = v39 + 32;
+                v38 = v38 - 1;
+            } while (v38 != 0);
+        }
+        if (v13 != 0) {
+            v40 = v17 + 24;
+            do {
+                if (get64(v40) != 0) rattle_dealloc_at(get64(v40 - 16));
+                v40 = v40 + 32;
+                v13 = v13 - 1;
+            } while (v13 != 0);
+        }
+    }
+    if (v15 != 0) rattle_dealloc_at(v17);
+    if (v11 != 0) rattle_dealloc_at(v12);
+    if (v9 != 0) rattle_dealloc_at(v10);
+    if (v7 != 0) {
+        v41 = v7 - v4;
+        if (v5 < (v41 + v5)) {
+            v42 = v8 + (v5 * 24);
+            do {
+                if (get64(v42 + 16) != 0) rattle_dealloc_at(get64(v42));
+                v42 = v42 + 24;
+                v41 = v41 - 1;
+            } while (v41 != 0);
+        }
+        if (v4 != 0) {
+            v43 = v8;
+            do {
+                if (get64(v43 + 16) != 0) rattle_dealloc_at(get64(v43));
+                v43 = v43 + 24;
+                v4 = v4 - 1;
+            } while (v4 != 0);
+        }
+    }
+    if (v6 != 0) rattle_dealloc_at(v8);
+    if (v2 != 0) {
+        v44 = v3;
+        do {
+            if (get64(v44 + 16) != 0) rattle_dealloc_at(get64(v44));
+            v44 = v44 + 24;
+            v2 = v2 - 1;
+        } while (v2 != 0);
+    }
+    if (v1 == 0) return;
+    rattle_dealloc_at(v3);
     return;
 }
 
@@ -1273,335 +2785,6 @@ l8:;
     v110 = p1 - 1;
     v111 = t55 | (uint32_t)(get8(p0 + v110) != get8(p2 + v110));
     return ~v111 & 1;
-}
-
-/* nodes::ground_node::Ground::of, crates/nodes/src/ground_node.rt:81 */
-static void nodes_ground_node_Ground_of(uint64_t p0, uint64_t p1)
-{
-    unsigned char frame_octets[160 + 15];
-    uint32_t v3, v4, v16, v5, v6, v10;
-    uint64_t v2, v7, v8, v9, v11, v12, v13, v14, v15;
-    v2 = aligned(frame_octets);
-    fill(v2 + 74, 0, 78);
-    v3 = get32(p1 + 16);
-    if ((v3 & 255) == 0) {
-        put16(p0, 0x501);
-        fill(p0 + 8, 0, 400);
-        return;
-    }
-    v4 = get32(p1 + 12);
-    if ((v4 & 255) == 0 || (v4 & 1) != 0) {
-        put16(p0, 0x501);
-        fill(p0 + 8, 0, 400);
-        return;
-    }
-    v16 = (v4 >> 1) & 127;
-    if (v16 < (v3 & 255)) {
-        put16(p0, 0x501);
-        fill(p0 + 8, 0, 400);
-        return;
-    }
-    v5 = get32(p1 + 20);
-    if ((v5 & 255) != 0) {
-        v6 = get32(p1 + 24);
-        if ((v6 & 0xffff) != 0) {
-            v7 = (uint64_t)v16;
-            rattle_alloc_at(v2 + 56, v7 << 5, 8);
-            if (((uint32_t)get64(v2 + 56) & 1) != 0) {
-                v8 = get64(v2 + 64);
-                rattle_alloc_at(v2 + 40, 0x10006, 1);
-                if (((uint32_t)get64(v2 + 40) & 1) == 0) {
-                    rattle_dealloc_at(v8);
-                    put16(p0, 0x501);
-                    fill(p0 + 8, 0, 400);
-                    return;
-                }
-                v9 = get64(v2 + 48);
-                v10 = get32(p1 + 56);
-                v11 = (uint64_t)v10;
-                if (v10 == 0) {
-                    v12 = v2 + 152;
-                    v13 = 127;
-                } else {
-                    rattle_alloc_at(v2 + 24, v11 << 5, 8);
-                    if (((uint32_t)get64(v2 + 24) & 1) == 0) {
-                        rattle_dealloc_at(v9);
-                        rattle_dealloc_at(v8);
-                        put16(p0, 0x501);
-                        fill(p0 + 8, 0, 400);
-                        return;
-                    }
-                    v12 = get64(v2 + 32);
-                    v13 = (uint64_t)get32(p1 + 56) + 127;
-                }
-                rattle_alloc_at(v2 + 8, v13 << 3, 8);
-                if (((uint32_t)get64(v2 + 8) & 1) == 0) {
-                    if (v10 != 0) rattle_dealloc_at(v12);
-                    rattle_dealloc_at(v9);
-                    rattle_dealloc_at(v8);
-                    put16(p0, 0x501);
-                    fill(p0 + 8, 0, 400);
-                    return;
-                }
-                v14 = get64(v2 + 16);
-                v15 = v2 + 80;
-                copy(v15, p1, 72);
-                put16(p0, 0);
-                copy(p0 + 8, v15, 72);
-                put32(p0 + 82, 0);
-                put8(p0 + 81, 5);
-                put8(p0 + 80, v16);
-                put8(p0 + 86, 0);
-                put64(p0 + 97, 0);
-                put8(p0 + 96, 1);
-                put32(p0 + 92, 0);
-                put16(p0 + 90, v6);
-                put8(p0 + 89, 0);
-                put8(p0 + 88, v5);
-                put8(p0 + 87, v3);
-                put64(p0 + 105, 0);
-                put64(p0 + 113, 0);
-                put64(p0 + 121, 0);
-                put64(p0 + 129, 0);
-                put64(p0 + 136, 0);
-                put64(p0 + 152, v7);
-                put64(p0 + 144, v8);
-                put64(p0 + 160, 0);
-                put64(p0 + 168, 0);
-                put64(p0 + 208, 0);
-                put64(p0 + 200, 0);
-                put64(p0 + 192, 0);
-                put64(p0 + 184, 0);
-                put64(p0 + 232, v11);
-                put64(p0 + 224, 0);
-                put64(p0 + 216, v12);
-                put64(p0 + 256, 0);
-                put64(p0 + 248, 0);
-                put64(p0 + 240, 0);
-                put64(p0 + 280, v13);
-                put64(p0 + 272, 0);
-                put64(p0 + 264, v14);
-                put64(p0 + 312, 0);
-                put64(p0 + 304, 0);
-                put64(p0 + 296, 0);
-                put64(p0 + 288, 0);
-                put64(p0 + 176, v2 + 152);
-                put64(p0 + 336, 0x10006);
-                put64(p0 + 328, 0);
-                put64(p0 + 320, v9);
-                put64(p0 + 352, 0);
-                put64(p0 + 360, 0);
-                put64(p0 + 368, 0);
-                put64(p0 + 376, 0);
-                put64(p0 + 392, 0);
-                put64(p0 + 400, 0);
-                put64(p0 + 344, v2 + 152);
-                put64(p0 + 384, v2 + 152);
-                return;
-            }
-        }
-    }
-    put16(p0, 0x501);
-    fill(p0 + 8, 0, 400);
-    return;
-}
-
-static void circular_buffer_heap_HeapCircularBuffer_drop_695a0d5c0a17370d(uint64_t p0)
-{
-    uint64_t v1, v2, v3, v8, v4, v5, v6, v7, v9, v10, v11, v12;
-    v1 = get64(p0);
-    v2 = get64(p0 + 16);
-    if (v2 != 0) {
-        v3 = get64(p0 + 8);
-        v8 = get64(p0 + 24);
-        v4 = (v8 < v3) ? 0ULL : v3;
-        v5 = v8 - v4;
-        v6 = v3 - v5;
-        v7 = (v6 < v2) ? v6 : v2;
-        if (v3 != v5) {
-            v9 = (v1 + ((v8 << 5) - (v4 << 5))) + 24;
-            v10 = v7;
-            do {
-                if (get64(v9) != 0) rattle_dealloc_at(get64(v9 - 16));
-                v9 = v9 + 32;
-                v10 = v10 - 1;
-            } while (v10 != 0);
-        }
-        if (v2 > v6) {
-            v11 = v2 - v7;
-            v12 = v1 + 24;
-            do {
-                if (get64(v12) != 0) rattle_dealloc_at(get64(v12 - 16));
-                v12 = v12 + 32;
-                v11 = v11 - 1;
-            } while (v11 != 0);
-        }
-    }
-    rattle_dealloc_at(v1);
-    return;
-}
-
-static void std_alloc_vec_deque_VecDeque_drop_695a0d5c0a17370d(uint64_t p0)
-{
-    uint64_t v1, v2, v3, v4, v5, v6, v7, v8;
-    v1 = get64(p0 + 16);
-    v2 = get64(p0);
-    v3 = get64(p0 + 8);
-    if (v3 != 0) {
-        v4 = get64(p0 + 24);
-        v5 = get64(p0 + 32);
-        v6 = v3 - v5;
-        if (v4 < (v4 + v6)) {
-            v7 = ((v4 << 5) + v2) + 24;
-            do {
-                if (get64(v7) != 0) rattle_dealloc_at(get64(v7 - 16));
-                v7 = v7 + 32;
-                v6 = v6 - 1;
-            } while (v6 != 0);
-        }
-        if (v5 != 0) {
-            v8 = v2 + 24;
-            do {
-                if (get64(v8) != 0) rattle_dealloc_at(get64(v8 - 16));
-                v8 = v8 + 32;
-                v5 = v5 - 1;
-            } while (v5 != 0);
-        }
-    }
-    if (v1 == 0) return;
-    rattle_dealloc_at(v2);
-    return;
-}
-
-static void sedgechisel_nodes_nodes_ground_node_Ground_Destruct_drop(uint64_t p0)
-{
-    uint64_t v1, v2, v3, v4, v5, v6, v7, v8, v9, v10, v11, v12, v13, v14, v15, v16, v17, v18, v19, v20, v21, v22, v23,
-        v24, v25, v26, v27, v30, v28, v29, v31, v32, v33, v34, v35, v36, v37, v38, v39, v40, v41, v42, v43, v44;
-    v1 = get64(p0 + 392);
-    v2 = get64(p0 + 384);
-    v3 = get64(p0 + 376);
-    v4 = get64(p0 + 368);
-    v5 = get64(p0 + 360);
-    v6 = get64(p0 + 352);
-    v7 = get64(p0 + 344);
-    v8 = get64(p0 + 336);
-    v9 = get64(p0 + 328);
-    v10 = get64(p0 + 312);
-    v11 = get64(p0 + 272);
-    v12 = get64(p0 + 256);
-    v13 = get64(p0 + 240);
-    v14 = get64(p0 + 232);
-    v15 = get64(p0 + 224);
-    v16 = get64(p0 + 216);
-    v17 = get64(p0 + 208);
-    v18 = get64(p0 + 200);
-    v19 = get64(p0 + 192);
-    v20 = get64(p0 + 184);
-    v21 = get64(p0 + 176);
-    v22 = get64(p0 + 168);
-    v23 = get64(p0 + 160);
-    v24 = get64(p0 + 152);
-    v25 = get64(p0 + 144);
-    v26 = get64(p0 + 136);
-    if (get8(p0 + 96) != 0 && get64(p0 + 128) != 0) rattle_dealloc_at(get64(p0 + 112));
-    if (v24 != 0) {
-        v27 = (v23 < v25) ? 0ULL : v25;
-        v30 = v23 - v27;
-        v28 = v25 - v30;
-        v29 = (v28 < v24) ? v28 : v24;
-        if (v25 != v30) {
-            v31 = (v26 + ((v23 << 5) - (v27 << 5))) + 24;
-            v32 = v29;
-            do {
-                if (get64(v31) != 0) rattle_dealloc_at(get64(v31 - 16));
-                v31 = v31 + 32;
-                v32 = v32 - 1;
-            } while (v32 != 0);
-        }
-        if (v24 > v28) {
-            v33 = v24 - v29;
-            v34 = v26 + 24;
-            do {
-                if (get64(v34) != 0) rattle_dealloc_at(get64(v34 - 16));
-                v34 = v34 + 32;
-                v33 = v33 - 1;
-            } while (v33 != 0);
-        }
-    }
-    rattle_dealloc_at(v26);
-    if (v21 != 0) {
-        v35 = v21 - v18;
-        if (v19 < (v35 + v19)) {
-            v36 = ((v19 << 5) + v22) + 24;
-            do {
-                if (get64(v36) != 0) rattle_dealloc_at(get64(v36 - 16));
-                v36 = v36 + 32;
-                v35 = v35 - 1;
-            } while (v35 != 0);
-        }
-        if (v18 != 0) {
-            v37 = v22 + 24;
-            do {
-                if (get64(v37) != 0) rattle_dealloc_at(get64(v37 - 16));
-                v37 = v37 + 32;
-                v18 = v18 - 1;
-            } while (v18 != 0);
-        }
-    }
-    if (v20 != 0) rattle_dealloc_at(v22);
-    if (v16 != 0) {
-        v38 = v16 - v13;
-        if (v14 < (v38 + v14)) {
-            v39 = ((v14 << 5) + v17) + 24;
-            do {
-                if (get64(v39) != 0) rattle_dealloc_at(get64(v39 - 16));
-                v39 = v39 + 32;
-                v38 = v38 - 1;
-            } while (v38 != 0);
-        }
-        if (v13 != 0) {
-            v40 = v17 + 24;
-            do {
-                if (get64(v40) != 0) rattle_dealloc_at(get64(v40 - 16));
-                v40 = v40 + 32;
-                v13 = v13 - 1;
-            } while (v13 != 0);
-        }
-    }
-    if (v15 != 0) rattle_dealloc_at(v17);
-    if (v11 != 0) rattle_dealloc_at(v12);
-    if (v9 != 0) rattle_dealloc_at(v10);
-    if (v7 != 0) {
-        v41 = v7 - v4;
-        if (v5 < (v41 + v5)) {
-            v42 = v8 + (v5 * 24);
-            do {
-                if (get64(v42 + 16) != 0) rattle_dealloc_at(get64(v42));
-                v42 = v42 + 24;
-                v41 = v41 - 1;
-            } while (v41 != 0);
-        }
-        if (v4 != 0) {
-            v43 = v8;
-            do {
-                if (get64(v43 + 16) != 0) rattle_dealloc_at(get64(v43));
-                v43 = v43 + 24;
-                v4 = v4 - 1;
-            } while (v4 != 0);
-        }
-    }
-    if (v6 != 0) rattle_dealloc_at(v8);
-    if (v2 != 0) {
-        v44 = v3;
-        do {
-            if (get64(v44 + 16) != 0) rattle_dealloc_at(get64(v44));
-            v44 = v44 + 24;
-            v2 = v2 - 1;
-        } while (v2 != 0);
-    }
-    if (v1 == 0) return;
-    rattle_dealloc_at(v3);
-    return;
 }
 
 /* nodes::spacecraft::Spacecraft::restarted, crates/nodes/src/spacecraft.rt:112 */
@@ -1972,128 +3155,409 @@ static void sedgechisel_nodes_nodes_spacecraft_Spacecraft_Destruct_drop(uint64_t
     return;
 }
 
-/* nodes::ground_node::Ground::advance, crates/nodes/src/ground_node/pull.rt:61 */
-static void nodes_ground_node_Ground_advance(uint64_t p0)
+/* nodes::ground_node::Ground::report, crates/nodes/src/ground_node/telemetry.rt:75 */
+static void nodes_ground_node_Ground_report(uint64_t p0, uint64_t p1, uint64_t p2)
 {
-    uint32_t v4, v16, v5, v19;
-    uint64_t v1, v13, v2, v3, v14, v15, v17, v18, v20, v6, v21, v22, v23, v7, v24, v25, v26, v27, v28, v8, v9, v10,
-        v11, v29, v30, v31, v12, v32, v33, v34, v35, v36;
-    v1 = p0 + 89;
-    if (get8(v1) == 1) {
-        put8(v1, 2);
-        put16(p0 + 84, 1);
-        put16(p0 + 86, get16(p0 + 82));
-        nodes_ground_node_Ground_refill(p0);
-        return;
+    unsigned char frame_octets[16 + 15];
+    uint32_t v4, v5, v6, v7, v2, v8, v22, v24, v10, v25, v26, v27;
+    uint64_t v3, v23, v9, v11, v12, v13, v14, v15, v16, v17, v28, v29, v30, v18, v19, v20, v21, v31, v32, v33;
+    v3 = aligned(frame_octets);
+    v4 = 1;
+    if (get8(p2) == 1) {
+        v5 = get8(p2 + 1);
+        v6 = 0;
+        v7 = 0;
+        goto l1;
     }
-    v13 = get64(p0 + 176);
-    if (v13 != 0) {
-        v2 = p0 + 200;
-        if (get64(v2) == v13) {
-            v3 = 0;
-            put64(v2, 0);
-        } else {
-            v3 = get64(p0 + 192);
+    v2 = get32(p2 + 2);
+    if ((v2 & 255) != get32(p1 + 4)) {
+        v6 = 0;
+        v4 = 2;
+        v5 = 0;
+        v7 = 0;
+        goto l1;
+    }
+    v8 = v2 >> 24;
+    v22 = v2 >> 8;
+    v23 = p1 + 72;
+    v9 = p1 + 75;
+    v24 = get8(v9);
+    v6 = 0;
+    v7 = 0;
+    v10 = get8(p1 + 73);
+    switch ((uint32_t)((uint64_t)v10 & 255)) {
+    case 3:
+        if ((v22 & 32) != 0) {
+            put8(p1 + 78, 0);
+            put8(p1 + 73, 5);
+            put8(p1 + 91, 0);
+            put16(p1 + 89, 0);
+            put32(p1 + 84, 0);
+            put16(p1 + 76, 0);
+            v6 = 1;
+            goto l4;
         }
-        put64(p0 + 176, v13 - 1);
-        put64(p0 + 192, v3 + 1);
-        v14 = get64(p0 + 168) + (v3 << 5);
-        if (get64(v14 + 24) != 0) rattle_dealloc_at(get64(v14 + 8));
-        nodes_ground_node_Ground_refill(p0);
-        return;
+        if (get8(p1 + 74) != v8) {
+            put8(p1 + 78, 0);
+            put8(p1 + 73, 5);
+            put8(p1 + 91, 0);
+            put16(p1 + 89, 0);
+            put32(p1 + 84, 0);
+            put16(p1 + 76, 0);
+            goto l5;
+        }
+        if ((v22 & 8) != 0) {
+            put8(p1 + 78, 0);
+            put8(p1 + 73, 5);
+            put8(p1 + 91, 0);
+            put16(p1 + 89, 0);
+            put32(p1 + 84, 0);
+            put16(p1 + 76, 0);
+            goto l7;
+        }
+        if ((v22 & 16) == 0) {
+            put32(p1 + 84, 0);
+            put8(p1 + 73, 0);
+            goto l9;
+        }
+        put8(p1 + 78, 0);
+        put8(p1 + 73, 5);
+        put8(p1 + 91, 0);
+        put16(p1 + 89, 0);
+        put32(p1 + 84, 0);
+        put16(p1 + 76, 0);
+        goto l6;
+    case 4:
+        if ((v22 & 56) == 0) {
+            if (get8(p1 + 74) != v8) goto l4;
+            put8(p1 + 91, 0);
+            put16(p1 + 89, 0);
+            put32(p1 + 84, 0);
+            put8(p1 + 73, 0);
+        }
+        goto l9;
+    case 5:
+        goto l4;
+    default:
+        break;
     }
-    if (get8(p0 + 73) > 1) {
-        nodes_ground_node_Ground_refill(p0);
-        return;
+    put8(v3 + 14, 0);
+    put16(v3 + 12, 0);
+    if ((v22 & 32) != 0) {
+        put8(p1 + 78, 0);
+        put8(p1 + 73, 5);
+        put8(p1 + 91, 0);
+        put16(p1 + 89, 0);
+        put32(p1 + 84, 0);
+        put16(p1 + 76, 0);
+        v6 = 1;
+        goto l4;
     }
-    v15 = p0 + 78;
-    v4 = get8(v15);
-    if (v4 != 0) {
-        put8(v15, v4 - 1);
-        put16(p0 + 84, 1);
-        put16(p0 + 86, get16(p0 + 82));
-        nodes_ground_node_Ground_refill(p0);
-        return;
+    v25 = get8(p1 + 74);
+    if (((v25 - v24) & 255) < ((v8 - v24) & 255)) {
+        put8(p1 + 78, 0);
+        put8(p1 + 73, 5);
+        put8(p1 + 91, 0);
+        put16(p1 + 89, 0);
+        put32(p1 + 84, 0);
+        put16(p1 + 76, 0);
+        goto l5;
     }
-    if (get8(p0 + 76) != 1) {
-        nodes_ground_node_Ground_refill(p0);
-        return;
+    if ((v22 & 24) == 16) {
+        put8(p1 + 78, 0);
+        put8(p1 + 73, 5);
+        put8(p1 + 91, 0);
+        put16(p1 + 89, 0);
+        put32(p1 + 84, 0);
+        put16(p1 + 76, 0);
+        goto l6;
     }
-    v16 = get8(p0 + 77);
-    if (v16 >= get8(p0 + 79)) {
-        nodes_ground_node_Ground_refill(p0);
-        return;
+    if ((v22 & 8) != 0) {
+        if ((v25 & 255) != v8) {
+            v26 = v22 & 16;
+            if ((v24 & 255) != v8) {
+                cop1_sender_Sender_ask_for_others(v3 + 12, v23, v8, v26 != 0);
+                goto l8;
+            }
+            cop1_sender_Sender_ask_for_all(v3 + 8, v23, v26 != 0);
+            v7 = get8(v3 + 9);
+            v6 = get8(v3 + 8);
+            goto l4;
+        }
+        put8(p1 + 78, 0);
+        put8(p1 + 73, 5);
+        put8(p1 + 91, 0);
+        put16(p1 + 89, 0);
+        put32(p1 + 84, 0);
+        put16(p1 + 76, 0);
+        goto l7;
     }
-    v17 = p0 + 74;
-    v5 = get8(v17);
-    if (v16 == 0) put8(p0 + 88, 1);
-    put8(p0 + 77, v16 + 1);
-    put8(p0 + 76, 0);
-    put8(v17, v5 + 1);
-    put16(p0 + 84, 1);
-    put16(p0 + 86, get16(p0 + 82));
-    v18 = p0 + 96;
-    v19 = get8(v18);
-    put64(v18, 0);
-    v20 = p0 + 104;
-    v6 = get64(v20);
-    put64(v20, 0);
-    v21 = p0 + 112;
-    v22 = get64(v21);
-    put64(v21, 0);
-    v23 = p0 + 120;
-    v7 = get64(v23);
-    put64(v23, 0);
-    v24 = p0 + 128;
-    v25 = get64(v24);
-    put64(v24, 0);
-    if (v19 != 1) {
-        nodes_ground_node_Ground_refill(p0);
-        return;
+    if ((v24 & 255) != v8) {
+        cop1_sender_Sender_move_on(v3 + 12, v23, v8);
+        goto l8;
     }
-    v26 = get64(p0 + 144);
-    if (v26 == 0) {
-        v27 = v25;
-        v28 = v22;
+    if ((v10 & 255) != 0) {
+        put8(p1 + 78, 0);
+        put8(p1 + 73, 5);
+        put8(p1 + 91, 0);
+        put16(p1 + 89, 0);
+        put32(p1 + 84, 0);
+        put16(p1 + 76, 0);
+        goto l7;
+    }
+l9:;
+    v7 = 0;
+    goto l4;
+l8:;
+    v7 = get8(v3 + 14);
+    v6 = get8(v3 + 13);
+    goto l4;
+l7:;
+    v7 = 3;
+    v6 = 1;
+    goto l4;
+l6:;
+    v7 = 2;
+    v6 = 1;
+    goto l4;
+l5:;
+    v6 = 1;
+    v7 = 1;
+l4:;
+    cop1_fop_trim_trim_09dedc624c4eb86b(v23, p1 + 96, p1 + 136);
+    v11 = get64(p1 + 264);
+    v12 = v11;
+    v27 = get8(v9) - v24;
+    if ((v27 & 255) == 0) goto l25;
+    if (v11 == 0) {
+        v12 = 0;
     } else {
-        v8 = p0 + 160;
-        v9 = get64(v8);
-        v10 = p0 + 152;
-        v11 = get64(v10);
-        if (v26 > v11) {
-            v29 = v9 + v11;
-            v30 = get64(p0 + 136) + ((v29 - ((v29 < v26) ? 0ULL : v26)) << 5);
-            put64(v30 + 24, v25);
-            put64(v30 + 16, v7);
-            put64(v30 + 8, v22);
-            put64(v30, v6);
-            put64(v10, get64(v10) + 1);
-            nodes_ground_node_Ground_refill(p0);
-            return;
+        v13 = p1 + 288;
+        v14 = p1 + 264;
+        v15 = p1 + 280;
+        v16 = p1 + 256;
+        v17 = p1 + 272;
+        v28 = v11;
+        do {
+            v29 = v28;
+            v28 = 0;
+            if (v29 != 0) {
+                if (get64(v13) != v29) {
+                    v30 = get64(v15);
+                } else {
+                    v30 = 0;
+                    put64(v13, 0);
+                }
+                v12 = v29 - 1;
+                put64(v14, v12);
+                v18 = v30 + 1;
+                put64(v15, v18);
+                v19 = get64(v16);
+                v20 = v19 + (v30 << 3);
+                v21 = get64(v20);
+                if (v21 < 2) {
+                    v28 = v12;
+                } else {
+                    v31 = v21 - 1;
+                    if (v18 == 0) {
+                        put64(v13, v12);
+                        v30 = get64(v17) - 1;
+                        put64(v19 + (v30 << 3), v31);
+                    } else {
+                        put64(v20, v31);
+                    }
+                    put64(v14, v29);
+                    put64(v15, v30);
+                    v12 = v29;
+                    v28 = v29;
+                }
+            }
+            v27 = v27 - 1;
+        } while ((v27 & 255) != 0);
+    }
+l25:;
+    v32 = p1 + 248;
+    put64(v32, v11 - v12 + get64(v32));
+    v33 = p1 + 296;
+    put8(v33, (uint32_t)((v6 & 255) != 1 || (v7 & 255) > 3) & get8(v33));
+    nodes_ground_node_Ground_refill(p1);
+    v4 = 0;
+    v5 = 0;
+l1:;
+    put8(p0, v4);
+    put8(p0 + 3, v7);
+    put8(p0 + 2, v6);
+    put8(p0 + 1, v5);
+    return;
+}
+
+/* cop1::sender::Sender::move_on, crates/cop1/src/sender/report.rt:90: report 6 */
+static void cop1_sender_Sender_move_on(uint64_t p0, uint64_t p1, uint32_t p2)
+{
+    uint32_t v4, v5, v2, v6;
+    uint64_t v3;
+    put8(p1 + 16, 1);
+    put8(p1 + 9, 0);
+    put8(p1 + 1, 0);
+    put8(p1 + 4, get8(p1 + 4) & 1);
+    v3 = p1 + 3;
+    v4 = get8(v3);
+    put8(v3, p2);
+    v5 = get8(p1 + 5) + (v4 - p2);
+    put8(p1 + 5, v5);
+    v2 = v5 & 255;
+    put16(p1 + 14, (v2 != 0) ? get16(p1 + 10) : 0U);
+    put16(p1 + 12, v2 != 0);
+    v6 = get8(p1 + 6);
+    put8(p1 + 6, (v2 < v6) ? v2 : v6);
+    put16(p0 + 1, 0);
+    put8(p0, p2 - v4);
+    return;
+}
+
+/* cop1::sender::Sender::ask_for_others, crates/cop1/src/sender/report.rt:112: report 7 */
+static void cop1_sender_Sender_ask_for_others(uint64_t p0, uint64_t p1, uint32_t p2, uint32_t p3)
+{
+    uint32_t v4, v5, v7, v8, v9, v10, v2, v11;
+    uint64_t v6, v3;
+    v4 = 1;
+    put8(p1 + 16, 1);
+    v5 = 0;
+    put8(p1 + 9, 0);
+    put16(p1 + 12, get8(p1 + 12));
+    put8(p1 + 4, get8(p1 + 4) & 1);
+    v6 = p1 + 3;
+    v7 = get8(v6);
+    put8(v6, p2);
+    v8 = get8(p1 + 5) + (v7 - p2);
+    put8(p1 + 5, v8);
+    v9 = v8 & 255;
+    v10 = get8(p1 + 6);
+    put8(p1 + 6, (v9 < v10) ? v9 : v10);
+    if (get8(p1 + 8) == 1) {
+        v2 = 0;
+        put8(p1 + 6, 0);
+        put8(p1 + 1, 5);
+        put16(p1 + 17, 0);
+        put32(p1 + 12, 0);
+        put16(p1 + 4, 0);
+        v5 = 4;
+        v3 = 19;
+    } else {
+        v2 = 2;
+        v3 = 1;
+        if (p3 == 0) {
+            v11 = get16(p1 + 10);
+            put8(p1 + 16, 2);
+            put8(p1 + 6, v8);
+            put16(p1 + 14, v11);
+            v2 = 1;
+            put16(p1 + 12, 1);
         }
-        v31 = v11 - 1;
-        put64(v10, v31);
-        v12 = v9 + 1;
-        v32 = v12 - ((v12 < v26) ? 0ULL : v26);
-        put64(v8, v32);
-        v33 = get64(p0 + 136);
-        v34 = v32 + v31;
-        v35 = v33 + ((v34 - ((v34 < v26) ? 0ULL : v26)) << 5);
-        put64(v35, v6);
-        v36 = v33 + (v9 << 5);
-        v28 = get64(v36 + 8);
-        put64(v35 + 8, v22);
-        put64(v35 + 16, v7);
-        v27 = get64(v36 + 24);
-        put64(v35 + 24, v25);
-        put64(v10, get64(v10) + 1);
+        v4 = 0;
     }
-    if (v27 == 0) {
-        nodes_ground_node_Ground_refill(p0);
-        return;
+    put8(p1 + v3, v2);
+    put8(p0 + 2, v5);
+    put8(p0 + 1, v4);
+    put8(p0, p2 - v7);
+    return;
+}
+
+/* cop1::sender::Sender::ask_for_all, crates/cop1/src/sender/report.rt:127: report 8 */
+static void cop1_sender_Sender_ask_for_all(uint64_t p0, uint64_t p1, uint32_t p2)
+{
+    uint32_t v3, v4, v5, v2, v6;
+    uint64_t v7, v8;
+    if (get8(p1 + 1) == 1) {
+        v3 = get8(p1 + 8);
+        v4 = 0;
+    } else {
+        v3 = get8(p1 + 8);
+        v4 = get8(p1 + 16) < v3;
     }
-    rattle_dealloc_at(v28);
-    nodes_ground_node_Ground_refill(p0);
+    v5 = 1;
+    if ((v3 & 255) == 1) {
+        v2 = 0;
+        put8(p1 + 6, 0);
+        put8(p1 + 1, 5);
+        put16(p1 + 17, 0);
+        put32(p1 + 12, 0);
+        put16(p1 + 4, 0);
+        v6 = 4;
+        v7 = 19;
+    } else {
+        v6 = 0;
+        v7 = 1;
+        if (p2 != 0) {
+            v2 = 2;
+        } else if (v4 == 0) {
+            v2 = 1;
+        } else {
+            v2 = 1;
+            put16(p1 + 12, 1);
+            put8(p1 + 6, get8(p1 + 5));
+            put16(p1 + 14, get16(p1 + 10));
+            v8 = p1 + 16;
+            put8(v8, get8(v8) + 1);
+        }
+        v5 = 0;
+    }
+    put8(p1 + v7, v2);
+    put8(p0 + 1, v6);
+    put8(p0, v5);
+    return;
+}
+
+/* cop1::fop::trim::trim, crates/cop1/src/fop/trim.rt:11 */
+static void cop1_fop_trim_trim_09dedc624c4eb86b(uint64_t p0, uint64_t p1, uint64_t p2)
+{
+    uint32_t v4;
+    uint64_t v3, v2, v5, v10, v11, v12, v13, v14, v6, v15, v7, t1, v16, v8, v17, v9, v18, v19, v20, v21;
+    v3 = (uint64_t)get8(p0 + 5);
+    if ((get8(p0 + 4) & 1) == 0) {
+        put64(p1 + 8, 0);
+        put64(p1 + 24, 0);
+        v4 = get8(p1);
+        put64(p1, 0);
+        v2 = p1 + 16;
+        v5 = get64(v2);
+        put64(v2, 0);
+        v10 = p1 + 32;
+        v11 = get64(v10);
+        put64(v10, 0);
+        if (v4 == 1 && v11 != 0) rattle_dealloc_at(v5);
+    }
+    v12 = p2 + 16;
+    v13 = get64(v12);
+    if (v13 <= v3) return;
+    put64(v12, v3);
+    v14 = p2 + 24;
+    v6 = get64(v14);
+    v15 = v13 - v3;
+    v7 = v6 + v15;
+    t1 = v14;
+    v16 = get64(p2 + 8);
+    put64(t1, v7 - ((v7 < v16) ? 0ULL : v16));
+    v8 = get64(p2);
+    v17 = v16 - v6;
+    v9 = (v17 < v15) ? v17 : v15;
+    if (v9 != 0) {
+        v18 = ((v6 << 5) + v8) + 24;
+        v19 = v9;
+        do {
+            if (get64(v18) != 0) rattle_dealloc_at(get64(v18 - 16));
+            v18 = v18 + 32;
+            v19 = v19 - 1;
+        } while (v19 != 0);
+    }
+    if (v15 <= v17) return;
+    v20 = v8 + 24;
+    v21 = v9 + v3 - v13;
+    do {
+        if (get64(v20) != 0) rattle_dealloc_at(get64(v20 - 16));
+        v20 = v20 + 32;
+        v21 = v21 + 1;
+    } while (v21 != 0);
     return;
 }
 
@@ -2166,6 +3630,431 @@ static void nodes_ground_node_Ground_refill(uint64_t p0)
     put64(p0 + 104, v17);
     put64(p0 + 96, 1);
     put8(v16, 1);
+    return;
+}
+
+/* command_ledger::ledger::Ledger::append, crates/command_ledger/src/ledger.rt:95 */
+static void command_ledger_ledger_Ledger_append(uint64_t p0, uint64_t p1, uint64_t p2)
+{
+    unsigned char frame_octets[32 + 15];
+    uint32_t v4, v5, t1, v10, v2, v19, t2, v20, t3, v25, v27, v28;
+    uint64_t v3, v6, v7, v8, v9, v11, v12, v13, v14, v15, v16, v17, v18, v21, v22, v23, v24, v26;
+    v3 = aligned(frame_octets);
+    put64(v3 + 24, 0);
+    put64(v3 + 16, 0);
+    put64(v3 + 8, 0);
+    put64(v3, 0);
+    command_ledger_entry_spelling(v3, p2);
+    if (get8(v3) != 0) {
+        v4 = 1;
+        v5 = 8;
+        put8(p0 + 1, v5);
+        put8(p0, v4);
+        return;
+    }
+    v6 = get64(v3 + 24);
+    v7 = get64(v3 + 8);
+    v8 = get64(v3 + 16);
+    v9 = p1 + 176;
+    if (v8 > (get64(p1 + 184) - get64(v9))) {
+        t1 = std_alloc_vec_Vec_grow_amortized_8131ac0ff0013ce2(p1 + 168, v8);
+        if (t1 == 0) {
+            v10 = 1;
+            v2 = 8;
+            v19 = 1;
+            if (v6 != 0) goto l3;
+            put8(p0 + 1, v2);
+            put8(p0, v19);
+            return;
+        }
+    }
+    t2 = command_ledger_state_State_apply(p1 + 8, p2);
+    if ((t2 & 255) != 0) {
+        v10 = 1;
+        v2 = 8;
+        v20 = 1;
+        if (v6 != 0) goto l3;
+        put8(p0 + 1, v2);
+        put8(p0, v20);
+        return;
+    }
+    v11 = get64(p1 + 184);
+    v12 = get64(p1 + 176);
+    if (v8 > (v11 - v12)) {
+        t3 = std_alloc_vec_Vec_grow_amortized_8131ac0ff0013ce2(p1 + 168, v8);
+        if (t3 == 0) goto l6;
+        v11 = get64(p1 + 184);
+        v12 = get64(p1 + 176);
+    }
+    v13 = 0;
+    put64(v9, 0);
+    put64(v9 + 8, 0);
+    v14 = v12 + v8;
+    v15 = get64(p1 + 168);
+    v16 = v15 + v12;
+    if ((v16 - v7) < v8) {
+        v17 = v8 & 3;
+        if (v8 >= 4) {
+            v18 = v8 & ~3ULL;
+            do {
+                v21 = v16 + v13;
+                v22 = v7 + v13;
+                put8(v21, get8(v22));
+                put8(v21 + 1, get8(v22 + 1));
+                put8(v21 + 2, get8(v22 + 2));
+                put8(v21 + 3, get8(v22 + 3));
+                v13 = v13 + 4;
+            } while (v18 != v13);
+            if (v17 == 0) goto l8;
+        }
+        v23 = v7 + v13;
+        v24 = v15 + (v12 + v13);
+        do {
+            put8(v24, get8(v23));
+            v24 = v24 + 1;
+            v23 = v23 + 1;
+            v17 = v17 - 1;
+        } while (v17 != 0);
+    } else if (v8 != 0) copy(v16, v7, v8);
+l8:;
+    put64(p1 + 184, v11);
+    put64(p1 + 176, v14);
+    put64(p1 + 168, v15);
+l6:;
+    v25 = 1;
+    v26 = p1 + 192;
+    if (get8(v26) == 0) v25 = get8(p2) != 4;
+    put8(v26, v25);
+    v2 = 0;
+    v10 = 0;
+    v27 = 0;
+    if (v6 == 0) {
+        put8(p0 + 1, v2);
+        put8(p0, v27);
+        return;
+    }
+l3:;
+    rattle_dealloc_at(v7);
+    v28 = v10;
+    put8(p0 + 1, v2);
+    put8(p0, v28);
+    return;
+}
+
+/* command_ledger::entry::spelling, crates/command_ledger/src/entry.rt:51 */
+static void command_ledger_entry_spelling(uint64_t p0, uint64_t p1)
+{
+    unsigned char frame_octets[224 + 15];
+    uint32_t v4, v13, v17, v6, v7, t3, v18, v8, v9, v19, v10, v11, v20, v24, v27;
+    uint64_t v2, v3, v14, v15, v5, t1, v16, t2, v21, v22, v12, t4, v23, v25, v26;
+    v2 = aligned(frame_octets);
+    v3 = 0;
+    put64(v2 + 168, 0);
+    put64(v2 + 160, 0);
+    put64(v2 + 152, 0);
+    put64(v2 + 144, 0);
+    switch ((uint32_t)(uint64_t)get8(p1)) {
+    case 1:
+        command_log_record_encode_fields(v2 + 123, p1 + 8);
+        put64(v2 + 109, get64(v2 + 136));
+        put64(v2 + 104, get64(v2 + 131));
+        put64(v2 + 96, get64(v2 + 123));
+        put64(v2 + 216, 0);
+        put64(v2 + 208, 0);
+        put64(v2 + 200, 0);
+        put64(v2 + 192, 0);
+        command_ledger_entry_spelled(v2 + 192, 2, v2 + 96, 21, address(constant_41), 0);
+        put64(v2 + 152, get64(v2 + 200));
+        put64(v2 + 160, get64(v2 + 208));
+        put64(v2 + 168, get64(v2 + 216));
+        break;
+    case 2:
+        v4 = get32(p1 + 4);
+        put32(v2 + 92, rotl32(v4 & 0xff00ff, 24) | (rotl32(v4, 8) & 0xff00ff));
+        put64(v2 + 216, 0);
+        put64(v2 + 208, 0);
+        put64(v2 + 200, 0);
+        put64(v2 + 192, 0);
+        command_ledger_entry_spelled(v2 + 192, 3, v2 + 92, 4, address(constant_41), 0);
+        put64(v2 + 152, get64(v2 + 200));
+        put64(v2 + 160, get64(v2 + 208));
+        put64(v2 + 168, get64(v2 + 216));
+        break;
+    case 3:
+        v13 = get32(p1 + 4);
+        put32(v2 + 80, rotl32(v13 & 0xff00ff, 24) | (rotl32(v13, 8) & 0xff00ff));
+        v14 = (uint64_t)get32(p1 + 12);
+        v15 = (uint64_t)get32(p1 + 8);
+        v5 = v15 << 32;
+        t1 = (v14 << 56) | ((v14 & 0xff00) << 40);
+        v16 = v5 | v14;
+        t2 = (t1 | (((v16 & 0xff0000) << 24) | ((v16 & 0xff000000ULL) << 8))) | ((((v15 << 24) & 0xff000000ULL) |
+            ((v15 << 8) & 0xff0000)) | (((v15 >> 8) & 0xff00) | (v5 >> 56)));
+        put64(v2 + 84, t2);
+        put64(v2 + 216, 0);
+        put64(v2 + 208, 0);
+        put64(v2 + 200, 0);
+        put64(v2 + 192, 0);
+        command_ledger_entry_spelled(v2 + 192, 4, v2 + 80, 12, address(constant_41), 0);
+        put64(v2 + 152, get64(v2 + 200));
+        put64(v2 + 160, get64(v2 + 208));
+        put64(v2 + 168, get64(v2 + 216));
+        break;
+    case 4:
+        put64(v2 + 216, 0);
+        put64(v2 + 208, 0);
+        put64(v2 + 200, 0);
+        put64(v2 + 192, 0);
+        command_ledger_entry_spelled(v2 + 192, 5, address(constant_41), 0, address(constant_41), 0);
+        put64(v2 + 152, get64(v2 + 200));
+        put64(v2 + 160, get64(v2 + 208));
+        put64(v2 + 168, get64(v2 + 216));
+        break;
+    case 5:
+        v17 = get32(p1 + 8);
+        command_log_record_encode_fields(v2 + 192, p1 + 16);
+        v6 = 0;
+        v7 = get32(p1 + 56);
+        t3 = rotl32(v7 & 0xff00ff, 24) | (rotl32(v7, 8) & 0xff00ff);
+        v18 = get8(p1 + 52) == 1;
+        v8 = (v18 != 0) ? t3 : 0U;
+        v9 = rotl32(v17 & 0xff00ff, 24) | (rotl32(v17, 8) & 0xff00ff);
+        v19 = get32(p1 + 48);
+        v10 = rotl32(v19 & 0xff00ff, 24) | (rotl32(v19, 8) & 0xff00ff);
+        v11 = get8(p1 + 60);
+        v20 = 0;
+        if (get8(p1 + 64) == 1) {
+            v21 = (uint64_t)get32(p1 + 76);
+            v22 = (uint64_t)get32(p1 + 72);
+            v12 = v22 << 32;
+            t4 = (v21 << 56) | ((v21 & 0xff00) << 40);
+            v23 = v12 | v21;
+            v3 = (t4 | (((v23 & 0xff0000) << 24) | ((v23 & 0xff000000ULL) << 8))) | ((((v22 << 24) & 0xff000000ULL) |
+                ((v22 << 8) & 0xff0000)) | (((v22 >> 8) & 0xff00) | (v12 >> 56)));
+            v24 = get32(p1 + 68);
+            v20 = rotl32(v24 & 0xff00ff, 24) | (rotl32(v24, 8) & 0xff00ff);
+            v6 = 1;
+        }
+        put64(v2 + 69, get64(v2 + 205));
+        put64(v2 + 64, get64(v2 + 200));
+        v25 = get64(v2 + 192);
+        put64(v2 + 56, v25);
+        put32(v2 + 8, v9);
+        put64(v2 + 12, v25);
+        put64(v2 + 48, v3);
+        put32(v2 + 44, v20);
+        put8(v2 + 43, v6);
+        put8(v2 + 42, v11);
+        put32(v2 + 38, v8);
+        put8(v2 + 37, v18);
+        put32(v2 + 33, v10);
+        put64(v2 + 20, get64(v2 + 64));
+        put64(v2 + 25, get64(v2 + 69));
+        put64(v2 + 216, 0);
+        put64(v2 + 208, 0);
+        put64(v2 + 200, 0);
+        put64(v2 + 192, 0);
+        command_ledger_entry_spelled(v2 + 192, 6, v2 + 8, 48, address(constant_41), 0);
+        put64(v2 + 152, get64(v2 + 200));
+        put64(v2 + 160, get64(v2 + 208));
+        put64(v2 + 168, get64(v2 + 216));
+        break;
+    default:
+        put8(v2 + 191, get8(p1 + 16));
+        v26 = get64(p1 + 8);
+        put8(v2 + 190, (uint32_t)v26);
+        put8(v2 + 189, (uint32_t)(v26 >> 8));
+        put8(v2 + 188, (uint32_t)(v26 >> 16));
+        put8(v2 + 187, (uint32_t)(v26 >> 24));
+        put8(v2 + 186, (uint32_t)(v26 >> 32));
+        put8(v2 + 185, (uint32_t)(v26 >> 40));
+        put8(v2 + 184, (uint32_t)(v26 >> 48));
+        put8(v2 + 183, (uint32_t)(v26 >> 56));
+        command_ledger_entry_spelled(v2 + 144, 1, v2 + 183, 9, get64(p1 + 24), get64(p1 + 32));
+        v27 = get8(v2 + 144);
+        goto l1;
+    }
+    v27 = get8(v2 + 192);
+l1:;
+    put8(p0, v27);
+    put64(p0 + 8, get64(v2 + 152));
+    put64(p0 + 16, get64(v2 + 160));
+    put64(p0 + 24, get64(v2 + 168));
+    return;
+}
+
+/* command_ledger::entry::spelled, crates/command_ledger/src/entry.rt:29 */
+static void command_ledger_entry_spelled(uint64_t p0, uint32_t p1, uint64_t p2, uint64_t p3, uint64_t p4, uint64_t p5)
+{
+    unsigned char frame_octets[64 + 15];
+    uint32_t v10, v2, t1, t2, t3, t4, v21, t6;
+    uint64_t v6, v7, v8, v9, v3, v4, v11, v12, v13, v14, v15, v5, v16, v17, v18, v19, v20;
+    v6 = aligned(frame_octets);
+    put32(v6 + 24, 0);
+    v7 = p3 + p5 + 9;
+    if (v7 == 0) {
+        v8 = v6 + 63;
+    } else {
+        if (v7 > 0x7fffffffffffffffULL) goto l7;
+        rattle_alloc_at(v6 + 8, v7, 1);
+        if (((uint32_t)get64(v6 + 8) & 1) == 0) goto l7;
+        v8 = get64(v6 + 16);
+    }
+    v9 = 0;
+    put64(v6 + 40, 0);
+    put64(v6 + 32, v8);
+    put64(v6 + 48, v7);
+    v10 = (uint32_t)v7;
+    v2 = rotl32(v10 & 0xff00ff, 24) | (rotl32(v10, 8) & 0xff00ff);
+    put32(v6 + 28, v2);
+    if (v7 <= 3) {
+        t1 = std_alloc_vec_Vec_grow_amortized_8131ac0ff0013ce2(v6 + 32, 4);
+        if (t1 == 0) {
+            if (get64(v6 + 48) != 0) rattle_dealloc_at(get64(v6 + 32));
+            put8(p0, 1);
+            put64(p0 + 8, 0);
+            put64(p0 + 16, 0);
+            put64(p0 + 24, 0);
+            return;
+        }
+        v8 = get64(v6 + 32);
+        v7 = get64(v6 + 48);
+        v9 = get64(v6 + 40);
+    }
+    v3 = v8 + v9;
+    put32(v3, ((v3 - (v6 + 28)) < 4) ? get32(v6 + 28) : v2);
+    v4 = v9 + 4;
+    put64(v6 + 40, v4);
+    put64(v6 + 48, v7);
+    if (v7 == v4) {
+        t2 = std_alloc_vec_Vec_grow_amortized_8131ac0ff0013ce2(v6 + 32, 1);
+        if (t2 == 0) {
+            if (get64(v6 + 48) != 0) rattle_dealloc_at(get64(v6 + 32));
+            put8(p0, 1);
+            put64(p0 + 8, 0);
+            put64(p0 + 16, 0);
+            put64(p0 + 24, 0);
+            return;
+        }
+        v7 = get64(v6 + 48);
+        v4 = get64(v6 + 40);
+    }
+    v11 = get64(v6 + 32);
+    put8(v11 + v4, p1);
+    v12 = v4 + 1;
+    put64(v6 + 40, v12);
+    put64(v6 + 48, v7);
+    if (p3 > (v7 - v12)) {
+        t3 = std_alloc_vec_Vec_grow_amortized_8131ac0ff0013ce2(v6 + 32, p3);
+        if (t3 == 0) {
+            if (get64(v6 + 48) != 0) rattle_dealloc_at(get64(v6 + 32));
+            put8(p0, 1);
+            put64(p0 + 8, 0);
+            put64(p0 + 16, 0);
+            put64(p0 + 24, 0);
+            return;
+        }
+        v11 = get64(v6 + 32);
+        v7 = get64(v6 + 48);
+        v12 = get64(v6 + 40);
+    }
+    v13 = v12 + p3;
+    v14 = v11 + v12;
+    if ((v14 - p2) >= p3) {
+        if (p3 == 0) goto l2;
+        copy(v14, p2, p3);
+        goto l2;
+    }
+    v15 = p3 & 3;
+    v5 = 0;
+    if (p3 >= 4) {
+        v16 = p3 & 60;
+        do {
+            v17 = v14 + v5;
+            v18 = p2 + v5;
+            put8(v17, get8(v18));
+            put8(v17 + 1, get8(v18 + 1));
+            put8(v17 + 2, get8(v18 + 2));
+            put8(v17 + 3, get8(v18 + 3));
+            v5 = v5 + 4;
+        } while (v16 != v5);
+        if (v15 == 0) goto l2;
+    }
+    v19 = p2 + v5;
+    v20 = v11 + (v12 + v5);
+    do {
+        put8(v20, get8(v19));
+        v20 = v20 + 1;
+        v19 = v19 + 1;
+        v15 = v15 - 1;
+    } while (v15 != 0);
+    goto l2;
+l7:;
+    put8(p0, 1);
+    put64(p0 + 8, 0);
+    put64(p0 + 16, 0);
+    put64(p0 + 24, 0);
+    return;
+l2:;
+    put64(v6 + 48, v7);
+    put64(v6 + 40, v13);
+    t4 = std_alloc_vec_Vec_extend_from_slice_916571bd4b2b1111(v6 + 32, p4, p5);
+    if ((t4 & 255) != 0) {
+        if (get64(v6 + 48) != 0) rattle_dealloc_at(get64(v6 + 32));
+        put8(p0, 1);
+        put64(p0 + 8, 0);
+        put64(p0 + 16, 0);
+        put64(p0 + 24, 0);
+        return;
+    }
+    v21 = command_log_crc_check_after(0, get64(v6 + 32), get64(v6 + 40));
+    put32(v6 + 24, rotl32(v21 & 0xff00ff, 24) | (rotl32(v21, 8) & 0xff00ff));
+    t6 = std_alloc_vec_Vec_extend_from_slice_916571bd4b2b1111(v6 + 32, v6 + 24, 4);
+    if ((t6 & 255) != 0) {
+        if (get64(v6 + 48) != 0) rattle_dealloc_at(get64(v6 + 32));
+        put8(p0, 1);
+        put64(p0 + 8, 0);
+        put64(p0 + 16, 0);
+        put64(p0 + 24, 0);
+        return;
+    }
+    put8(p0, 0);
+    put64(p0 + 8, get64(v6 + 32));
+    put64(p0 + 16, get64(v6 + 40));
+    put64(p0 + 24, get64(v6 + 48));
+    return;
+}
+
+/* command_log::record::encode_fields, crates/command_log/src/record.rt:68 */
+static void command_log_record_encode_fields(uint64_t p0, uint64_t p1)
+{
+    uint32_t v2, v4, v5;
+    uint64_t v3;
+    v2 = get32(p1 + 4);
+    v3 = get64(p1 + 16);
+    v4 = get32(p1 + 24);
+    v5 = get32(p1);
+    put8(p0 + 20, get8(p1 + 8));
+    put8(p0 + 19, v4);
+    put8(p0 + 15, (uint32_t)v3);
+    put8(p0 + 7, v2);
+    put8(p0 + 3, v5);
+    put8(p0 + 2, v5 >> 8);
+    put8(p0 + 1, v5 >> 16);
+    put8(p0, v5 >> 24);
+    put8(p0 + 18, v4 >> 8);
+    put8(p0 + 17, v4 >> 16);
+    put8(p0 + 16, v4 >> 24);
+    put8(p0 + 14, (uint32_t)(v3 >> 8));
+    put8(p0 + 13, (uint32_t)(v3 >> 16));
+    put8(p0 + 12, (uint32_t)(v3 >> 24));
+    put8(p0 + 11, (uint32_t)(v3 >> 32));
+    put8(p0 + 10, (uint32_t)(v3 >> 40));
+    put8(p0 + 9, (uint32_t)(v3 >> 48));
+    put8(p0 + 8, (uint32_t)(v3 >> 56));
+    put8(p0 + 6, v2 >> 8);
+    put8(p0 + 5, v2 >> 16);
+    put8(p0 + 4, v2 >> 24);
     return;
 }
 
@@ -2602,412 +4491,6 @@ static uint32_t std_alloc_vec_Vec_grow_amortized_de4148db516017ec(uint64_t p0)
     return 1;
 }
 
-/* nodes::ground_node::Ground::report, crates/nodes/src/ground_node/telemetry.rt:75 */
-static void nodes_ground_node_Ground_report(uint64_t p0, uint64_t p1, uint64_t p2)
-{
-    unsigned char frame_octets[16 + 15];
-    uint32_t v4, v5, v6, v7, v2, v8, v22, v24, v10, v25, v26, v27;
-    uint64_t v3, v23, v9, v11, v12, v13, v14, v15, v16, v17, v28, v29, v30, v18, v19, v20, v21, v31, v32, v33;
-    v3 = aligned(frame_octets);
-    v4 = 1;
-    if (get8(p2) == 1) {
-        v5 = get8(p2 + 1);
-        v6 = 0;
-        v7 = 0;
-        goto l1;
-    }
-    v2 = get32(p2 + 2);
-    if ((v2 & 255) != get32(p1 + 4)) {
-        v6 = 0;
-        v4 = 2;
-        v5 = 0;
-        v7 = 0;
-        goto l1;
-    }
-    v8 = v2 >> 24;
-    v22 = v2 >> 8;
-    v23 = p1 + 72;
-    v9 = p1 + 75;
-    v24 = get8(v9);
-    v6 = 0;
-    v7 = 0;
-    v10 = get8(p1 + 73);
-    switch ((uint32_t)((uint64_t)v10 & 255)) {
-    case 3:
-        if ((v22 & 32) != 0) {
-            put8(p1 + 78, 0);
-            put8(p1 + 73, 5);
-            put8(p1 + 91, 0);
-            put16(p1 + 89, 0);
-            put32(p1 + 84, 0);
-            put16(p1 + 76, 0);
-            v6 = 1;
-            goto l4;
-        }
-        if (get8(p1 + 74) != v8) {
-            put8(p1 + 78, 0);
-            put8(p1 + 73, 5);
-            put8(p1 + 91, 0);
-            put16(p1 + 89, 0);
-            put32(p1 + 84, 0);
-            put16(p1 + 76, 0);
-            goto l5;
-        }
-        if ((v22 & 8) != 0) {
-            put8(p1 + 78, 0);
-            put8(p1 + 73, 5);
-            put8(p1 + 91, 0);
-            put16(p1 + 89, 0);
-            put32(p1 + 84, 0);
-            put16(p1 + 76, 0);
-            goto l7;
-        }
-        if ((v22 & 16) == 0) {
-            put32(p1 + 84, 0);
-            put8(p1 + 73, 0);
-            goto l9;
-        }
-        put8(p1 + 78, 0);
-        put8(p1 + 73, 5);
-        put8(p1 + 91, 0);
-        put16(p1 + 89, 0);
-        put32(p1 + 84, 0);
-        put16(p1 + 76, 0);
-        goto l6;
-    case 4:
-        if ((v22 & 56) == 0) {
-            if (get8(p1 + 74) != v8) goto l4;
-            put8(p1 + 91, 0);
-            put16(p1 + 89, 0);
-            put32(p1 + 84, 0);
-            put8(p1 + 73, 0);
-        }
-        goto l9;
-    case 5:
-        goto l4;
-    default:
-        break;
-    }
-    put8(v3 + 14, 0);
-    put16(v3 + 12, 0);
-    if ((v22 & 32) != 0) {
-        put8(p1 + 78, 0);
-        put8(p1 + 73, 5);
-        put8(p1 + 91, 0);
-        put16(p1 + 89, 0);
-        put32(p1 + 84, 0);
-        put16(p1 + 76, 0);
-        v6 = 1;
-        goto l4;
-    }
-    v25 = get8(p1 + 74);
-    if (((v25 - v24) & 255) < ((v8 - v24) & 255)) {
-        put8(p1 + 78, 0);
-        put8(p1 + 73, 5);
-        put8(p1 + 91, 0);
-        put16(p1 + 89, 0);
-        put32(p1 + 84, 0);
-        put16(p1 + 76, 0);
-        goto l5;
-    }
-    if ((v22 & 24) == 16) {
-        put8(p1 + 78, 0);
-        put8(p1 + 73, 5);
-        put8(p1 + 91, 0);
-        put16(p1 + 89, 0);
-        put32(p1 + 84, 0);
-        put16(p1 + 76, 0);
-        goto l6;
-    }
-    if ((v22 & 8) != 0) {
-        if ((v25 & 255) != v8) {
-            v26 = v22 & 16;
-            if ((v24 & 255) != v8) {
-                cop1_sender_Sender_ask_for_others(v3 + 12, v23, v8, v26 != 0);
-                goto l8;
-            }
-            cop1_sender_Sender_ask_for_all(v3 + 8, v23, v26 != 0);
-            v7 = get8(v3 + 9);
-            v6 = get8(v3 + 8);
-            goto l4;
-        }
-        put8(p1 + 78, 0);
-        put8(p1 + 73, 5);
-        put8(p1 + 91, 0);
-        put16(p1 + 89, 0);
-        put32(p1 + 84, 0);
-        put16(p1 + 76, 0);
-        goto l7;
-    }
-    if ((v24 & 255) != v8) {
-        cop1_sender_Sender_move_on(v3 + 12, v23, v8);
-        goto l8;
-    }
-    if ((v10 & 255) != 0) {
-        put8(p1 + 78, 0);
-        put8(p1 + 73, 5);
-        put8(p1 + 91, 0);
-        put16(p1 + 89, 0);
-        put32(p1 + 84, 0);
-        put16(p1 + 76, 0);
-        goto l7;
-    }
-l9:;
-    v7 = 0;
-    goto l4;
-l8:;
-    v7 = get8(v3 + 14);
-    v6 = get8(v3 + 13);
-    goto l4;
-l7:;
-    v7 = 3;
-    v6 = 1;
-    goto l4;
-l6:;
-    v7 = 2;
-    v6 = 1;
-    goto l4;
-l5:;
-    v6 = 1;
-    v7 = 1;
-l4:;
-    cop1_fop_trim_trim_09dedc624c4eb86b(v23, p1 + 96, p1 + 136);
-    v11 = get64(p1 + 264);
-    v12 = v11;
-    v27 = get8(v9) - v24;
-    if ((v27 & 255) == 0) goto l25;
-    if (v11 == 0) {
-        v12 = 0;
-    } else {
-        v13 = p1 + 288;
-        v14 = p1 + 264;
-        v15 = p1 + 280;
-        v16 = p1 + 256;
-        v17 = p1 + 272;
-        v28 = v11;
-        do {
-            v29 = v28;
-            v28 = 0;
-            if (v29 != 0) {
-                if (get64(v13) != v29) {
-                    v30 = get64(v15);
-                } else {
-                    v30 = 0;
-                    put64(v13, 0);
-                }
-                v12 = v29 - 1;
-                put64(v14, v12);
-                v18 = v30 + 1;
-                put64(v15, v18);
-                v19 = get64(v16);
-                v20 = v19 + (v30 << 3);
-                v21 = get64(v20);
-                if (v21 < 2) {
-                    v28 = v12;
-                } else {
-                    v31 = v21 - 1;
-                    if (v18 == 0) {
-                        put64(v13, v12);
-                        v30 = get64(v17) - 1;
-                        put64(v19 + (v30 << 3), v31);
-                    } else {
-                        put64(v20, v31);
-                    }
-                    put64(v14, v29);
-                    put64(v15, v30);
-                    v12 = v29;
-                    v28 = v29;
-                }
-            }
-            v27 = v27 - 1;
-        } while ((v27 & 255) != 0);
-    }
-l25:;
-    v32 = p1 + 248;
-    put64(v32, v11 - v12 + get64(v32));
-    v33 = p1 + 296;
-    put8(v33, (uint32_t)((v6 & 255) != 1 || (v7 & 255) > 3) & get8(v33));
-    nodes_ground_node_Ground_refill(p1);
-    v4 = 0;
-    v5 = 0;
-l1:;
-    put8(p0, v4);
-    put8(p0 + 3, v7);
-    put8(p0 + 2, v6);
-    put8(p0 + 1, v5);
-    return;
-}
-
-/* cop1::sender::Sender::move_on, crates/cop1/src/sender/report.rt:90: report 6 */
-static void cop1_sender_Sender_move_on(uint64_t p0, uint64_t p1, uint32_t p2)
-{
-    uint32_t v4, v5, v2, v6;
-    uint64_t v3;
-    put8(p1 + 16, 1);
-    put8(p1 + 9, 0);
-    put8(p1 + 1, 0);
-    put8(p1 + 4, get8(p1 + 4) & 1);
-    v3 = p1 + 3;
-    v4 = get8(v3);
-    put8(v3, p2);
-    v5 = get8(p1 + 5) + (v4 - p2);
-    put8(p1 + 5, v5);
-    v2 = v5 & 255;
-    put16(p1 + 14, (v2 != 0) ? get16(p1 + 10) : 0U);
-    put16(p1 + 12, v2 != 0);
-    v6 = get8(p1 + 6);
-    put8(p1 + 6, (v2 < v6) ? v2 : v6);
-    put16(p0 + 1, 0);
-    put8(p0, p2 - v4);
-    return;
-}
-
-/* cop1::sender::Sender::ask_for_others, crates/cop1/src/sender/report.rt:112: report 7 */
-static void cop1_sender_Sender_ask_for_others(uint64_t p0, uint64_t p1, uint32_t p2, uint32_t p3)
-{
-    uint32_t v4, v5, v7, v8, v9, v10, v2, v11;
-    uint64_t v6, v3;
-    v4 = 1;
-    put8(p1 + 16, 1);
-    v5 = 0;
-    put8(p1 + 9, 0);
-    put16(p1 + 12, get8(p1 + 12));
-    put8(p1 + 4, get8(p1 + 4) & 1);
-    v6 = p1 + 3;
-    v7 = get8(v6);
-    put8(v6, p2);
-    v8 = get8(p1 + 5) + (v7 - p2);
-    put8(p1 + 5, v8);
-    v9 = v8 & 255;
-    v10 = get8(p1 + 6);
-    put8(p1 + 6, (v9 < v10) ? v9 : v10);
-    if (get8(p1 + 8) == 1) {
-        v2 = 0;
-        put8(p1 + 6, 0);
-        put8(p1 + 1, 5);
-        put16(p1 + 17, 0);
-        put32(p1 + 12, 0);
-        put16(p1 + 4, 0);
-        v5 = 4;
-        v3 = 19;
-    } else {
-        v2 = 2;
-        v3 = 1;
-        if (p3 == 0) {
-            v11 = get16(p1 + 10);
-            put8(p1 + 16, 2);
-            put8(p1 + 6, v8);
-            put16(p1 + 14, v11);
-            v2 = 1;
-            put16(p1 + 12, 1);
-        }
-        v4 = 0;
-    }
-    put8(p1 + v3, v2);
-    put8(p0 + 2, v5);
-    put8(p0 + 1, v4);
-    put8(p0, p2 - v7);
-    return;
-}
-
-/* cop1::sender::Sender::ask_for_all, crates/cop1/src/sender/report.rt:127: report 8 */
-static void cop1_sender_Sender_ask_for_all(uint64_t p0, uint64_t p1, uint32_t p2)
-{
-    uint32_t v3, v4, v5, v2, v6;
-    uint64_t v7, v8;
-    if (get8(p1 + 1) == 1) {
-        v3 = get8(p1 + 8);
-        v4 = 0;
-    } else {
-        v3 = get8(p1 + 8);
-        v4 = get8(p1 + 16) < v3;
-    }
-    v5 = 1;
-    if ((v3 & 255) == 1) {
-        v2 = 0;
-        put8(p1 + 6, 0);
-        put8(p1 + 1, 5);
-        put16(p1 + 17, 0);
-        put32(p1 + 12, 0);
-        put16(p1 + 4, 0);
-        v6 = 4;
-        v7 = 19;
-    } else {
-        v6 = 0;
-        v7 = 1;
-        if (p2 != 0) {
-            v2 = 2;
-        } else if (v4 == 0) {
-            v2 = 1;
-        } else {
-            v2 = 1;
-            put16(p1 + 12, 1);
-            put8(p1 + 6, get8(p1 + 5));
-            put16(p1 + 14, get16(p1 + 10));
-            v8 = p1 + 16;
-            put8(v8, get8(v8) + 1);
-        }
-        v5 = 0;
-    }
-    put8(p1 + v7, v2);
-    put8(p0 + 1, v6);
-    put8(p0, v5);
-    return;
-}
-
-/* cop1::fop::trim::trim, crates/cop1/src/fop/trim.rt:11 */
-static void cop1_fop_trim_trim_09dedc624c4eb86b(uint64_t p0, uint64_t p1, uint64_t p2)
-{
-    uint32_t v4;
-    uint64_t v3, v2, v5, v10, v11, v12, v13, v14, v6, v15, v7, t1, v16, v8, v17, v9, v18, v19, v20, v21;
-    v3 = (uint64_t)get8(p0 + 5);
-    if ((get8(p0 + 4) & 1) == 0) {
-        put64(p1 + 8, 0);
-        put64(p1 + 24, 0);
-        v4 = get8(p1);
-        put64(p1, 0);
-        v2 = p1 + 16;
-        v5 = get64(v2);
-        put64(v2, 0);
-        v10 = p1 + 32;
-        v11 = get64(v10);
-        put64(v10, 0);
-        if (v4 == 1 && v11 != 0) rattle_dealloc_at(v5);
-    }
-    v12 = p2 + 16;
-    v13 = get64(v12);
-    if (v13 <= v3) return;
-    put64(v12, v3);
-    v14 = p2 + 24;
-    v6 = get64(v14);
-    v15 = v13 - v3;
-    v7 = v6 + v15;
-    t1 = v14;
-    v16 = get64(p2 + 8);
-    put64(t1, v7 - ((v7 < v16) ? 0ULL : v16));
-    v8 = get64(p2);
-    v17 = v16 - v6;
-    v9 = (v17 < v15) ? v17 : v15;
-    if (v9 != 0) {
-        v18 = ((v6 << 5) + v8) + 24;
-        v19 = v9;
-        do {
-            if (get64(v18) != 0) rattle_dealloc_at(get64(v18 - 16));
-            v18 = v18 + 32;
-            v19 = v19 - 1;
-        } while (v19 != 0);
-    }
-    if (v15 <= v17) return;
-    v20 = v8 + 24;
-    v21 = v9 + v3 - v13;
-    do {
-        if (get64(v20) != 0) rattle_dealloc_at(get64(v20 - 16));
-        v20 = v20 + 32;
-        v21 = v21 + 1;
-    } while (v21 != 0);
-    return;
-}
-
 /* nodes::ground_node::Ground::directive, crates/nodes/src/ground_node.rt:215 */
 static void nodes_ground_node_Ground_directive(uint64_t p0, uint64_t p1, uint64_t p2)
 {
@@ -3144,152 +4627,6 @@ l1:;
     put8(p0, v14);
     put8(p0 + 2, v12);
     put8(p0 + 1, v2);
-    return;
-}
-
-/* nodes::ground_node::Ground::peek, crates/nodes/src/ground_node/pull.rt:18 */
-static void nodes_ground_node_Ground_peek(uint64_t p0, uint64_t p1)
-{
-    uint32_t v8, v6, v7, v5, v12, v14, v9, v10;
-    uint64_t v2, v4, v11, v3, v13, v15, v16, v17;
-    if (get8(p1 + 89) == 1) {
-        v8 = get8(p1 + 91);
-        v6 = get8(p1 + 90);
-        v7 = 2;
-        v2 = 0;
-        v5 = 0;
-        v4 = 0;
-        goto l1;
-    }
-    v11 = get64(p1 + 176);
-    if (v11 != 0) {
-        v3 = get64(p1 + 168);
-        if (v11 != get64(p1 + 200)) v3 = v3 + (get64(p1 + 192) << 5);
-        v2 = get64(v3 + 16);
-        v4 = get64(v3 + 8);
-        v5 = get16(v3);
-        v6 = 0;
-        v7 = 1;
-        v8 = 0;
-        goto l1;
-    }
-    if (get8(p1 + 73) <= 1) {
-        v12 = get8(p1 + 78);
-        if (v12 == 0) {
-            if (get8(p1 + 76) != 1 || get8(p1 + 77) >= get8(p1 + 79) || get8(p1 + 96) != 1) goto l5;
-            v13 = p1 + 104;
-            v6 = get8(p1 + 74);
-        } else {
-            v14 = get8(p1 + 77) - v12;
-            v15 = (uint64_t)v14 & 255;
-            if (get64(p1 + 152) <= v15) goto l5;
-            v16 = get64(p1 + 160) + v15;
-            v17 = get64(p1 + 144);
-            v13 = get64(p1 + 136) + ((v16 - ((v16 < v17) ? 0ULL : v17)) << 5);
-            v6 = v14 + get8(p1 + 75);
-        }
-        v2 = get64(v13 + 16);
-        v4 = get64(v13 + 8);
-        v5 = get16(v13);
-        v7 = 0;
-        v8 = 0;
-        goto l1;
-    }
-l5:;
-    put64(p0 + 40, 0);
-    put64(p0 + 32, 0);
-    put64(p0 + 24, 0);
-    put64(p0 + 16, 0);
-    put64(p0 + 8, 0);
-    put64(p0, 0);
-    return;
-l1:;
-    v9 = get32(p1 + 4);
-    v10 = get32(p1);
-    put32(p0 + 11, 0);
-    put8(p0 + 10, v9);
-    put16(p0 + 8, v10);
-    put64(p0, 1);
-    put8(p0 + 15, 0);
-    put32(p0 + 19, 0);
-    put8(p0 + 18, v8);
-    put8(p0 + 17, v6);
-    put8(p0 + 16, v7);
-    put8(p0 + 23, 0);
-    put64(p0 + 40, v2);
-    put64(p0 + 32, v4);
-    put64(p0 + 24, (uint64_t)v5 & 0xffff);
-    return;
-}
-
-/* nodes::ground_node::Ground::resume, crates/nodes/src/ground_node/fates.rt:73 */
-static void nodes_ground_node_Ground_resume(uint64_t p0, uint64_t p1, uint32_t p2)
-{
-    unsigned char frame_octets[16 + 15];
-    uint32_t v4, v6, v2, v8, v9, t1, v19, v20;
-    uint64_t v3, v5, v18, v7, v10, v11, v21, v12, v13, v14, v15, v16, v17, v22, v23;
-    v3 = aligned(frame_octets);
-    v4 = get8(p1 + 73);
-    put32(v3 + 8, 5);
-    v5 = 0;
-    v6 = 6;
-    if (v4 != 5) {
-        v2 = 1;
-        goto l1;
-    }
-    v2 = 1;
-    if (get8(p1 + 296) != 1) goto l1;
-    v18 = 0;
-    v7 = 0;
-    v8 = get8(p1 + 74);
-    v9 = get8(p1 + 75);
-    if (v8 != v9) {
-        t1 = (v8 - v9) & 255;
-        v19 = p2 - v9;
-        v20 = t1 < (v19 & 255);
-        if (v20 != 0) {
-            v5 = 0;
-            goto l1;
-        }
-        v7 = (uint64_t)((v20 != 0) ? 0U : v19) & 255;
-    }
-    v10 = get64(p1 + 248);
-    v11 = get64(p1 + 264);
-    if (v11 != 0) {
-        v21 = get64(p1 + 288);
-        v12 = v21 - v11;
-        v13 = v11 - v21;
-        v14 = get64(p1 + 256);
-        v18 = 0;
-        v15 = p1 + 280;
-        do {
-            if (v18 < v13) {
-                v16 = v14 + (get64(v15) << 3);
-                v17 = v18;
-            } else {
-                v17 = v12 + v18;
-                v16 = v14;
-            }
-            v22 = get64(v16 + (v17 << 3));
-            v23 = (v22 > 1) ? v22 : 1ULL;
-            if (v7 < v23) goto l5;
-            v7 = v7 - v23;
-            v18 = v18 + 1;
-        } while (v11 != v18);
-        v18 = v11;
-    }
-l5:;
-    put8(v3 + 9, p2);
-    nodes_ground_node_Ground_directive(v3 + 13, p1, v3 + 8);
-    put8(v3 + 8, 2);
-    nodes_ground_node_Ground_directive(v3 + 13, p1, v3 + 8);
-    v5 = v18 + v10;
-    v2 = 0;
-    v6 = 0;
-l1:;
-    put8(p0, v2);
-    put64(p0 + 8, v5);
-    put8(p0 + 1, v6);
     return;
 }
 
@@ -4221,6 +5558,684 @@ static uint32_t std_alloc_vec_Vec_grow_amortized_ab161963403435e1(uint64_t p0, u
     return 1;
 }
 
+/* nodes::ground_node::Ground::peek, crates/nodes/src/ground_node/pull.rt:18 */
+static void nodes_ground_node_Ground_peek(uint64_t p0, uint64_t p1)
+{
+    uint32_t v8, v6, v7, v5, v12, v14, v9, v10;
+    uint64_t v2, v4, v11, v3, v13, v15, v16, v17;
+    if (get8(p1 + 89) == 1) {
+        v8 = get8(p1 + 91);
+        v6 = get8(p1 + 90);
+        v7 = 2;
+        v2 = 0;
+        v5 = 0;
+        v4 = 0;
+        goto l1;
+    }
+    v11 = get64(p1 + 176);
+    if (v11 != 0) {
+        v3 = get64(p1 + 168);
+        if (v11 != get64(p1 + 200)) v3 = v3 + (get64(p1 + 192) << 5);
+        v2 = get64(v3 + 16);
+        v4 = get64(v3 + 8);
+        v5 = get16(v3);
+        v6 = 0;
+        v7 = 1;
+        v8 = 0;
+        goto l1;
+    }
+    if (get8(p1 + 73) <= 1) {
+        v12 = get8(p1 + 78);
+        if (v12 == 0) {
+            if (get8(p1 + 76) != 1 || get8(p1 + 77) >= get8(p1 + 79) || get8(p1 + 96) != 1) goto l5;
+            v13 = p1 + 104;
+            v6 = get8(p1 + 74);
+        } else {
+            v14 = get8(p1 + 77) - v12;
+            v15 = (uint64_t)v14 & 255;
+            if (get64(p1 + 152) <= v15) goto l5;
+            v16 = get64(p1 + 160) + v15;
+            v17 = get64(p1 + 144);
+            v13 = get64(p1 + 136) + ((v16 - ((v16 < v17) ? 0ULL : v17)) << 5);
+            v6 = v14 + get8(p1 + 75);
+        }
+        v2 = get64(v13 + 16);
+        v4 = get64(v13 + 8);
+        v5 = get16(v13);
+        v7 = 0;
+        v8 = 0;
+        goto l1;
+    }
+l5:;
+    put64(p0 + 40, 0);
+    put64(p0 + 32, 0);
+    put64(p0 + 24, 0);
+    put64(p0 + 16, 0);
+    put64(p0 + 8, 0);
+    put64(p0, 0);
+    return;
+l1:;
+    v9 = get32(p1 + 4);
+    v10 = get32(p1);
+    put32(p0 + 11, 0);
+    put8(p0 + 10, v9);
+    put16(p0 + 8, v10);
+    put64(p0, 1);
+    put8(p0 + 15, 0);
+    put32(p0 + 19, 0);
+    put8(p0 + 18, v8);
+    put8(p0 + 17, v6);
+    put8(p0 + 16, v7);
+    put8(p0 + 23, 0);
+    put64(p0 + 40, v2);
+    put64(p0 + 32, v4);
+    put64(p0 + 24, (uint64_t)v5 & 0xffff);
+    return;
+}
+
+/* tc_frame::encoding::encode, crates/tc_frame/src/encoding.rt:18 */
+static void tc_frame_encoding_encode(uint64_t p0, uint64_t p1, uint64_t p2, uint64_t p3)
+{
+    uint32_t v5, v6, v7, v8, v3, v13, v14, v22, v34;
+    uint64_t v4, v9, v2, v15, v10, v16, v11, v17, v12, v18, v19, v20, v21, v23, v24, v25, v26, v27, v28, v29, v30,
+        v31, v32, v33;
+    v4 = 0;
+    v5 = 10;
+    v6 = 1;
+    v7 = get16(p1);
+    if (v7 > 0x3ff || get8(p1 + 2) > 63) goto l1;
+    v8 = get8(p1 + 8);
+    if (v8 != 2) {
+        if (get8(p1 + 17) > 63) goto l1;
+        v9 = get64(p1 + 32);
+        if (v9 == 0 || (v9 + 8) >= 0x401) goto l1;
+        v2 = get64(p1 + 32) + 8;
+        if (p3 < v2) {
+            v5 = 9;
+            goto l1;
+        }
+        v3 = (v8 != 0) ? 0x2000U : 0U;
+        v4 = v2;
+    } else {
+        v3 = 0x3000;
+        v4 = (get8(p1 + 9) != 0) ? 10ULL : 8ULL;
+        if (p3 < v4) {
+            v5 = 9;
+            v4 = 0;
+            goto l1;
+        }
+    }
+    v13 = v3 | v7;
+    put16(p2, (v13 << 8) | (v13 >> 8));
+    v14 = ((uint32_t)v4 + (get8(p1 + 2) << 10)) - 1;
+    put16(p2 + 2, (v14 << 8) | ((v14 & 0xff00) >> 8));
+    switch ((uint32_t)(uint64_t)get8(p1 + 8)) {
+    case 1:
+        put8(p2 + 4, 0);
+        put8(p2 + 5, (get8(p1 + 16) << 6) + get8(p1 + 17));
+        v15 = p2 + 6;
+        v10 = get64(p1 + 24);
+        v16 = get64(p1 + 32);
+        if ((v15 - v10) >= v16) {
+            if (v16 == 0) break;
+            copy(v15, v10, v16);
+        } else {
+            v11 = v16 & 3;
+            v17 = 0;
+            if (v16 >= 4) {
+                v12 = v16 & ~3ULL;
+                do {
+                    v18 = p2 + v17;
+                    v19 = v10 + v17;
+                    put8(v18 + 6, get8(v19));
+                    put8(v18 + 7, get8(v19 + 1));
+                    put8(v18 + 8, get8(v19 + 2));
+                    put8(v18 + 9, get8(v19 + 3));
+                    v17 = v17 + 4;
+                } while (v12 != v17);
+                if (v11 == 0) break;
+            }
+            v20 = v10 + v17;
+            v21 = v17 + p2 + 6;
+            do {
+                put8(v21, get8(v20));
+                v21 = v21 + 1;
+                v20 = v20 + 1;
+                v11 = v11 - 1;
+            } while (v11 != 0);
+        }
+        break;
+    case 2:
+        v22 = 0;
+        put8(p2 + 4, 0);
+        if (get8(p1 + 9) != 0) {
+            put8(p2 + 7, get8(p1 + 10));
+            put8(p2 + 6, 0);
+            v22 = 130;
+        }
+        put8(p2 + 5, v22);
+        break;
+    default:
+        put8(p2 + 4, get8(p1 + 9));
+        put8(p2 + 5, (get8(p1 + 16) << 6) + get8(p1 + 17));
+        v23 = p2 + 6;
+        v24 = get64(p1 + 24);
+        v25 = get64(p1 + 32);
+        if ((v23 - v24) >= v25) {
+            if (v25 != 0) copy(v23, v24, v25);
+        } else {
+            v26 = v25 & 3;
+            v27 = 0;
+            if (v25 >= 4) {
+                v28 = v25 & ~3ULL;
+                do {
+                    v29 = p2 + v27;
+                    v30 = v24 + v27;
+                    put8(v29 + 6, get8(v30));
+                    put8(v29 + 7, get8(v30 + 1));
+                    put8(v29 + 8, get8(v30 + 2));
+                    put8(v29 + 9, get8(v30 + 3));
+                    v27 = v27 + 4;
+                } while (v28 != v27);
+                if (v26 == 0) break;
+            }
+            v31 = v24 + v27;
+            v32 = v27 + p2 + 6;
+            do {
+                put8(v32, get8(v31));
+                v32 = v32 + 1;
+                v31 = v31 + 1;
+                v26 = v26 - 1;
+            } while (v26 != 0);
+        }
+        break;
+    }
+    v33 = v4 - 2;
+    v34 = octets_frame_check_check(p2, v33);
+    put16(p2 + v33, (v34 << 8) | ((v34 & 0xff00) >> 8));
+    v6 = 0;
+    v5 = 0;
+l1:;
+    put8(p0, v6);
+    put64(p0 + 8, v4);
+    put8(p0 + 1, v5);
+    return;
+}
+
+/* octets::frame_check::check, crates/octets/src/frame_check.rt:17 */
+#ifndef SEDGE_SMALL
+static uint32_t octets_frame_check_check(uint64_t p0, uint64_t p1)
+{
+    uint32_t v2, v3, t1, t2, t3, t4, t5, t6, t7, t9, t10, t11, v8, v9;
+    uint64_t p1_now, p0_now, v4, v5, v6, v7;
+    p1_now = p1;
+    p0_now = p0;
+    v2 = 0xffff;
+    if (p1_now >= 16) {
+        v2 = 255;
+        v3 = 255;
+        do {
+            t1 = get16(((uint64_t)get8(p0_now + 14) << 1) + address(sedge_fecf_tables + 512)) ^
+                get16(((uint64_t)get8(p0_now + 15) << 1) + address(sedge_fecf_tables));
+            t2 = (t1 ^ get16(((uint64_t)get8(p0_now + 13) << 1) + address(sedge_fecf_tables + 1024))) ^
+                get16(((uint64_t)get8(p0_now + 12) << 1) + address(sedge_fecf_tables + 1536));
+            t3 = (t2 ^ get16(((uint64_t)get8(p0_now + 11) << 1) + address(sedge_fecf_tables + 2048))) ^
+                get16(((uint64_t)get8(p0_now + 10) << 1) + address(sedge_fecf_tables + 2560));
+            t4 = (t3 ^ get16(((uint64_t)get8(p0_now + 9) << 1) + address(sedge_fecf_tables + 3072))) ^
+                get16(((uint64_t)get8(p0_now + 8) << 1) + address(sedge_fecf_tables + 3584));
+            t5 = (t4 ^ get16(((uint64_t)get8(p0_now + 7) << 1) + address(sedge_fecf_tables + 4096))) ^
+                get16(((uint64_t)get8(p0_now + 6) << 1) + address(sedge_fecf_tables + 4608));
+            t6 = (t5 ^ get16(((uint64_t)get8(p0_now + 5) << 1) + address(sedge_fecf_tables + 5120))) ^
+                get16(((uint64_t)get8(p0_now + 4) << 1) + address(sedge_fecf_tables + 5632));
+            t7 = (t6 ^ get16(((uint64_t)get8(p0_now + 3) << 1) + address(sedge_fecf_tables + 6144))) ^
+                get16(((uint64_t)get8(p0_now + 2) << 1) + address(sedge_fecf_tables + 6656));
+            v2 = (t7 ^ get16((((uint64_t)(get8(p0_now + 1) ^ v2) & 255) << 1) + address(sedge_fecf_tables + 7168))) ^
+                get16((((uint64_t)(get8(p0_now) ^ v3) & 255) << 1) + address(sedge_fecf_tables + 7680));
+            v3 = (v2 & 0xff00) >> 8;
+            p0_now = p0_now + 16;
+            p1_now = p1_now - 16;
+        } while (p1_now >= 16);
+    }
+    if (p1_now >= 8) {
+        t9 = get16(((uint64_t)get8(p0_now + 6) << 1) + address(sedge_fecf_tables + 512)) ^
+            get16(((uint64_t)get8(p0_now + 7) << 1) + address(sedge_fecf_tables));
+        t10 = (t9 ^ get16(((uint64_t)get8(p0_now + 5) << 1) + address(sedge_fecf_tables + 1024))) ^
+            get16(((uint64_t)get8(p0_now + 4) << 1) + address(sedge_fecf_tables + 1536));
+        t11 = (t10 ^ get16(((uint64_t)get8(p0_now + 3) << 1) + address(sedge_fecf_tables + 2048))) ^
+            get16(((uint64_t)get8(p0_now + 2) << 1) + address(sedge_fecf_tables + 2560));
+        v2 = (t11 ^ get16((((uint64_t)(get8(p0_now + 1) ^ v2) & 255) << 1) + address(sedge_fecf_tables + 3072))) ^
+            get16((((uint64_t)(get8(p0_now) ^ (v2 >> 8)) & 255) << 1) + address(sedge_fecf_tables + 3584));
+        p0_now = p0_now + 8;
+        p1_now = p1_now - 8;
+    }
+    if (p1_now == 0) return v2;
+    v4 = 0;
+    if (p1_now != 1) {
+        v5 = p1_now & 1;
+        v6 = p1_now & ~1ULL;
+        do {
+            v7 = p0_now + v4;
+            v8 = get16((((uint64_t)(get8(v7) ^ (v2 >> 8)) & 255) << 1) + address(sedge_fecf_tables));
+            v2 = get16((((uint64_t)(get8(v7 + 1) ^ ((v8 ^ (v2 << 8)) >> 8)) & 255) << 1) + address(sedge_fecf_tables))
+                ^ (v8 << 8);
+            v4 = v4 + 2;
+        } while (v6 != v4);
+        if (v5 == 0) return v2;
+    }
+    v9 = get16((((uint64_t)(get8(p0_now + v4) ^ (v2 >> 8)) & 255) << 1) + address(sedge_fecf_tables)) ^ (v2 << 8);
+    return v9;
+}
+#else
+static uint32_t octets_frame_check_check(uint64_t p0, uint64_t p1)
+{
+    uint32_t v2, v3, v8;
+    uint64_t v4, v5, v6, v7;
+    v2 = 0xffff;
+    if (p1 == 0) return 0xffff;
+    v4 = 0;
+    if (p1 != 1) {
+        v5 = p1 & 1;
+        v6 = p1 & ~1ULL;
+        do {
+            v7 = p0 + v4;
+            v3 = get16((((uint64_t)(get8(v7) ^ (v2 >> 8)) & 255) << 1) + address(sedge_fecf_tables));
+            v2 = get16((((uint64_t)(get8(v7 + 1) ^ ((v3 ^ (v2 << 8)) >> 8)) & 255) << 1) + address(sedge_fecf_tables))
+                ^ (v3 << 8);
+            v4 = v4 + 2;
+        } while (v6 != v4);
+        if (v5 == 0) return v2;
+    }
+    v8 = get16((((uint64_t)(get8(p0 + v4) ^ (v2 >> 8)) & 255) << 1) + address(sedge_fecf_tables)) ^ (v2 << 8);
+    return v8;
+}
+#endif
+
+/* nodes::ground_node::Ground::advance, crates/nodes/src/ground_node/pull.rt:61 */
+static void nodes_ground_node_Ground_advance(uint64_t p0)
+{
+    uint32_t v4, v16, v5, v19;
+    uint64_t v1, v13, v2, v3, v14, v15, v17, v18, v20, v6, v21, v22, v23, v7, v24, v25, v26, v27, v28, v8, v9, v10,
+        v11, v29, v30, v31, v12, v32, v33, v34, v35, v36;
+    v1 = p0 + 89;
+    if (get8(v1) == 1) {
+        put8(v1, 2);
+        put16(p0 + 84, 1);
+        put16(p0 + 86, get16(p0 + 82));
+        nodes_ground_node_Ground_refill(p0);
+        return;
+    }
+    v13 = get64(p0 + 176);
+    if (v13 != 0) {
+        v2 = p0 + 200;
+        if (get64(v2) == v13) {
+            v3 = 0;
+            put64(v2, 0);
+        } else {
+            v3 = get64(p0 + 192);
+        }
+        put64(p0 + 176, v13 - 1);
+        put64(p0 + 192, v3 + 1);
+        v14 = get64(p0 + 168) + (v3 << 5);
+        if (get64(v14 + 24) != 0) rattle_dealloc_at(get64(v14 + 8));
+        nodes_ground_node_Ground_refill(p0);
+        return;
+    }
+    if (get8(p0 + 73) > 1) {
+        nodes_ground_node_Ground_refill(p0);
+        return;
+    }
+    v15 = p0 + 78;
+    v4 = get8(v15);
+    if (v4 != 0) {
+        put8(v15, v4 - 1);
+        put16(p0 + 84, 1);
+        put16(p0 + 86, get16(p0 + 82));
+        nodes_ground_node_Ground_refill(p0);
+        return;
+    }
+    if (get8(p0 + 76) != 1) {
+        nodes_ground_node_Ground_refill(p0);
+        return;
+    }
+    v16 = get8(p0 + 77);
+    if (v16 >= get8(p0 + 79)) {
+        nodes_ground_node_Ground_refill(p0);
+        return;
+    }
+    v17 = p0 + 74;
+    v5 = get8(v17);
+    if (v16 == 0) put8(p0 + 88, 1);
+    put8(p0 + 77, v16 + 1);
+    put8(p0 + 76, 0);
+    put8(v17, v5 + 1);
+    put16(p0 + 84, 1);
+    put16(p0 + 86, get16(p0 + 82));
+    v18 = p0 + 96;
+    v19 = get8(v18);
+    put64(v18, 0);
+    v20 = p0 + 104;
+    v6 = get64(v20);
+    put64(v20, 0);
+    v21 = p0 + 112;
+    v22 = get64(v21);
+    put64(v21, 0);
+    v23 = p0 + 120;
+    v7 = get64(v23);
+    put64(v23, 0);
+    v24 = p0 + 128;
+    v25 = get64(v24);
+    put64(v24, 0);
+    if (v19 != 1) {
+        nodes_ground_node_Ground_refill(p0);
+        return;
+    }
+    v26 = get64(p0 + 144);
+    if (v26 == 0) {
+        v27 = v25;
+        v28 = v22;
+    } else {
+        v8 = p0 + 160;
+        v9 = get64(v8);
+        v10 = p0 + 152;
+        v11 = get64(v10);
+        if (v26 > v11) {
+            v29 = v9 + v11;
+            v30 = get64(p0 + 136) + ((v29 - ((v29 < v26) ? 0ULL : v26)) << 5);
+            put64(v30 + 24, v25);
+            put64(v30 + 16, v7);
+            put64(v30 + 8, v22);
+            put64(v30, v6);
+            put64(v10, get64(v10) + 1);
+            nodes_ground_node_Ground_refill(p0);
+            return;
+        }
+        v31 = v11 - 1;
+        put64(v10, v31);
+        v12 = v9 + 1;
+        v32 = v12 - ((v12 < v26) ? 0ULL : v26);
+        put64(v8, v32);
+        v33 = get64(p0 + 136);
+        v34 = v32 + v31;
+        v35 = v33 + ((v34 - ((v34 < v26) ? 0ULL : v26)) << 5);
+        put64(v35, v6);
+        v36 = v33 + (v9 << 5);
+        v28 = get64(v36 + 8);
+        put64(v35 + 8, v22);
+        put64(v35 + 16, v7);
+        v27 = get64(v36 + 24);
+        put64(v35 + 24, v25);
+        put64(v10, get64(v10) + 1);
+    }
+    if (v27 == 0) {
+        nodes_ground_node_Ground_refill(p0);
+        return;
+    }
+    rattle_dealloc_at(v28);
+    nodes_ground_node_Ground_refill(p0);
+    return;
+}
+
+/* commander::commander::Commander::status, crates/commander/src/hearing.rt:203 */
+static void commander_commander_Commander_status(uint64_t p0, uint64_t p1, uint64_t p2, uint64_t p3)
+{
+    unsigned char frame_octets[208 + 15];
+    uint32_t v10, v8, v5, v2, v3, v13, v14, v9, v15, v16, v6, v7, v17, v18, v21, v22, v23, v24, v25, v26;
+    uint64_t v4, v12, v19, v11, v20;
+    v4 = aligned(frame_octets);
+    put64(v4 + 64, 0);
+    put64(v4 + 56, 0);
+    put64(v4 + 48, 0);
+    put64(v4 + 40, 0);
+    put64(v4 + 32, 0);
+    put64(v4 + 24, 0);
+    put64(v4 + 16, 0);
+    command_log_status_decode_status(v4 + 16, p2, p3);
+    if (get8(v4 + 16) != 0) {
+        v10 = get8(v4 + 17) != 0;
+        v8 = 1;
+        put8(p0 + 1, v10);
+        put8(p0, v8);
+        return;
+    }
+    v5 = 1;
+    if (get8(p1 + 73) != 5 && get32(p1 + 652) == 0 && (((get64(p1 + 216) + get64(p1 + 152)) == ((get8(p1 + 96) == 1) ?
+        ~0ULL : 0ULL)) && (get8(v4 + 24) & 255) == 0 && (get8(v4 + 64) & 255) == 0 && (get8(v4 + 40) & 1) == 0)) v5 =
+        get32(v4 + 36) >= get32(p1 + 648);
+    put64(v4 + 120, 0);
+    put64(v4 + 112, 0);
+    put64(v4 + 104, 0);
+    put64(v4 + 96, 0);
+    put64(v4 + 88, 0);
+    put64(v4 + 80, 0);
+    put64(v4 + 72, 0);
+    command_log_status_decode_status(v4 + 72, p2, p3);
+    if (get8(v4 + 72) != 0) {
+        v2 = get8(v4 + 73) != 0;
+        v3 = 1;
+        put8(p0 + 1, v2);
+        put8(p0, v3);
+        return;
+    }
+    v12 = p1 + 400;
+    switch ((uint32_t)(uint64_t)get8(v4 + 80)) {
+    case 1:
+    case 2:
+        v13 = 0;
+        v14 = 0;
+        if (v5 != 0) {
+            put8(p0 + 1, v13);
+            put8(p0, v14);
+            return;
+        }
+        goto l2;
+    case 3:
+        v9 = get32(v4 + 84);
+        if (get8(p1 + 452) == 1) {
+            v15 = 0;
+            v16 = 0;
+            if (get32(p1 + 456) == v9) goto l3;
+        }
+        put32(v4 + 132, v9);
+        put32(v4 + 128, 2);
+        fill(v4 + 136, 0, 72);
+        command_ledger_ledger_Ledger_append(v4 + 8, v12, v4 + 128);
+        v15 = get8(v4 + 9);
+        v16 = get8(v4 + 8);
+        goto l3;
+    default:
+        break;
+    }
+    v6 = get8(v4 + 96);
+    v7 = get32(v4 + 92);
+    v17 = get32(p1 + 416);
+    v18 = get32(v4 + 88);
+    if (v17 >= v18) {
+        v15 = 0;
+        if (v17 != v18) {
+            v16 = 0;
+            goto l3;
+        }
+        v19 = ((uint64_t)get32(p1 + 420) << 1) | (uint64_t)get8(p1 + 424);
+        v11 = ((uint64_t)v7 << 1) | ((uint64_t)v6 & 255);
+        if (v19 >= v11) {
+            v16 = 0;
+            if (((uint32_t)(v19 == v11) & get8(p1 + 460)) == 0) goto l3;
+        }
+    }
+    put8(v4 + 144, v6);
+    put32(v4 + 140, v7);
+    put32(v4 + 136, v18);
+    put64(v4 + 128, 1);
+    put64(v4 + 168, 0);
+    put64(v4 + 176, 0);
+    put64(v4 + 184, 0);
+    put64(v4 + 192, 0);
+    put64(v4 + 200, 0);
+    v20 = v4 + 97;
+    put64(v4 + 145, get64(v20));
+    put64(v4 + 153, get64(v20 + 8));
+    put64(v4 + 160, get64(v20 + 15));
+    command_ledger_ledger_Ledger_append(v4, v12, v4 + 128);
+    v15 = get8(v4 + 1);
+    v16 = get8(v4);
+l3:;
+    v21 = v16 & 255;
+    v22 = v21 != 0;
+    if (((v22 | v5) & 1) != 0) {
+        v23 = (v21 != 0) ? v15 : 0U;
+        put8(p0 + 1, v23);
+        put8(p0, v22);
+        return;
+    }
+l2:;
+    put32(v4 + 128, 4);
+    nodes_ground_node_Ground_directive(v4 + 72, p1, v4 + 128);
+    v24 = 0;
+    put16(p1 + 662, 0);
+    put16(p1 + 656, 0);
+    v25 = get32(p1 + 608) + 1;
+    put32(p1 + 652, (v25 != 0) ? v25 : ~0U);
+    v26 = 0;
+    put8(p0 + 1, v24);
+    put8(p0, v26);
+    return;
+}
+
+/* command_log::status::decode_status, crates/command_log/src/status.rt:82 */
+static void command_log_status_decode_status(uint64_t p0, uint64_t p1, uint64_t p2)
+{
+    unsigned char frame_octets[144 + 15];
+    uint32_t v4, v5, v13, v12, v11, v10, v7, v8, v6, v9, v16, v17, t2;
+    uint64_t v3, v2, v14, v15;
+    v3 = aligned(frame_octets);
+    put32(v3 + 55, 0);
+    put64(v3 + 48, 0);
+    put64(v3 + 40, 0);
+    put64(v3 + 32, 0);
+    put64(v3, 0);
+    put64(v3 + 8, 0);
+    put64(v3 + 16, 0);
+    put32(v3 + 23, 0);
+    if (p2 != 27) {
+        put16(p0, 1);
+        put64(p0 + 8, 0);
+        put64(p0 + 16, 0);
+        put64(p0 + 24, 0);
+        put64(p0 + 32, 0);
+        put64(p0 + 40, 0);
+        put8(p0 + 48, 0);
+        return;
+    }
+    v4 = get8(p1);
+    command_log_record_decode_fields(v3 + 104, p1 + 1);
+    v5 = get32(v3 + 104);
+    switch (v4) {
+    case 0:
+        put32(v3 + 63, get32(v3 + 116));
+        put32(v3 + 60, get32(v3 + 113));
+        put32(v3 + 68, get32(v3 + 60));
+        put32(v3 + 71, get32(v3 + 63));
+        v13 = get32(v3 + 132);
+        v12 = get32(v3 + 128);
+        v2 = get64(v3 + 120);
+        v11 = get8(v3 + 112);
+        v10 = get32(v3 + 108);
+        v7 = get8(p1 + 22);
+        v8 = 0;
+        put32(v3 + 100, 0);
+        put32(v3 + 139, get32(v3 + 63));
+        put32(v3 + 136, get32(v3 + 60));
+        v6 = 0;
+        v9 = v5;
+        break;
+    case 1:
+    case 2:
+        v6 = 0;
+        put32(v3 + 68, 0);
+        put32(v3 + 71, 0);
+        v7 = get8(p1 + 22);
+        put32(v3 + 100, 0);
+        put32(v3 + 139, 0);
+        put32(v3 + 136, 0);
+        v2 = 0;
+        v8 = v4;
+        v9 = 0;
+        v10 = 0;
+        v11 = 0;
+        v12 = 0;
+        v13 = 0;
+        v5 = 0;
+        break;
+    default:
+        v9 = 0;
+        put32(v3 + 68, 0);
+        put32(v3 + 71, 0);
+        v7 = get8(p1 + 22);
+        put32(v3 + 100, 0);
+        put32(v3 + 139, 0);
+        put32(v3 + 136, 0);
+        v2 = 0;
+        v8 = 3;
+        v6 = v5;
+        v10 = 0;
+        v11 = 0;
+        v12 = 0;
+        v13 = 0;
+        break;
+    }
+    put32(v3 + 116, get32(v3 + 139));
+    put32(v3 + 113, get32(v3 + 136));
+    put32(v3 + 132, v13);
+    put32(v3 + 128, v12);
+    put64(v3 + 120, v2);
+    put8(v3 + 112, v11);
+    put32(v3 + 108, v10);
+    put32(v3 + 104, v5);
+    command_log_record_encode_fields(v3 + 77 + 1, v3 + 104);
+    put8(v3 + 99, v7);
+    put8(v3 + 77, v8);
+    v16 = command_log_crc_check_after(0, v3 + 77, 23);
+    v17 = rotl32(v16 & 0xff00ff, 24) | (rotl32(v16, 8) & 0xff00ff);
+    put32(v3 + 100, v17);
+    put32(v3 + 55, v17);
+    put64(v3 + 48, get64(v3 + 93));
+    v14 = get64(v3 + 77);
+    put64(v3, v14);
+    v15 = get64(v3 + 85);
+    put64(v3 + 40, v15);
+    put64(v3 + 32, v14);
+    put64(v3 + 8, v15);
+    put64(v3 + 16, get64(v3 + 48));
+    put32(v3 + 23, get32(v3 + 55));
+    if (get8(v3) == v4 && (get8(v3 + 1) & 255) == (get8(p1 + 1) & 255) && (get8(v3 + 2) & 255) == (get8(p1 + 2) & 255)
+        && (get8(v3 + 3) & 255) == (get8(p1 + 3) & 255)) {
+        t2 = core_cmp_slices_groups_equal_i8_31_core_cmp_numbers_U8PartialEq(v3, 27, p1);
+        if (t2 != 0) {
+            put16(p0, 0);
+            put8(p0 + 24, v11);
+            put32(p0 + 20, v10);
+            put32(p0 + 16, v9);
+            put32(p0 + 12, v6);
+            put32(p0 + 8, v8);
+            put32(p0 + 25, get32(v3 + 68));
+            put32(p0 + 28, get32(v3 + 71));
+            put8(p0 + 48, v7);
+            put32(p0 + 44, v13);
+            put32(p0 + 40, v12);
+            put64(p0 + 32, v2);
+            return;
+        }
+    }
+    put16(p0, 257);
+    put64(p0 + 8, 0);
+    put64(p0 + 16, 0);
+    put64(p0 + 24, 0);
+    put64(p0 + 32, 0);
+    put64(p0 + 40, 0);
+    put8(p0 + 48, 0);
+    return;
+}
+
 /* nodes::ground_node::Ground::telemetry, crates/nodes/src/ground_node/telemetry.rt:28 */
 static void nodes_ground_node_Ground_telemetry(uint64_t p0, uint64_t p1, uint64_t p2, uint64_t p3)
 {
@@ -4917,94 +6932,6 @@ static uint32_t std_alloc_vec_Vec_grow_amortized_5ff1a26cbddecd5f(uint64_t p0, u
     return 1;
 }
 
-/* octets::frame_check::check, crates/octets/src/frame_check.rt:17 */
-#ifndef SEDGE_SMALL
-static uint32_t octets_frame_check_check(uint64_t p0, uint64_t p1)
-{
-    uint32_t v2, v3, t1, t2, t3, t4, t5, t6, t7, t9, t10, t11, v8, v9;
-    uint64_t p1_now, p0_now, v4, v5, v6, v7;
-    p1_now = p1;
-    p0_now = p0;
-    v2 = 0xffff;
-    if (p1_now >= 16) {
-        v2 = 255;
-        v3 = 255;
-        do {
-            t1 = get16(((uint64_t)get8(p0_now + 14) << 1) + address(sedge_fecf_tables + 512)) ^
-                get16(((uint64_t)get8(p0_now + 15) << 1) + address(sedge_fecf_tables));
-            t2 = (t1 ^ get16(((uint64_t)get8(p0_now + 13) << 1) + address(sedge_fecf_tables + 1024))) ^
-                get16(((uint64_t)get8(p0_now + 12) << 1) + address(sedge_fecf_tables + 1536));
-            t3 = (t2 ^ get16(((uint64_t)get8(p0_now + 11) << 1) + address(sedge_fecf_tables + 2048))) ^
-                get16(((uint64_t)get8(p0_now + 10) << 1) + address(sedge_fecf_tables + 2560));
-            t4 = (t3 ^ get16(((uint64_t)get8(p0_now + 9) << 1) + address(sedge_fecf_tables + 3072))) ^
-                get16(((uint64_t)get8(p0_now + 8) << 1) + address(sedge_fecf_tables + 3584));
-            t5 = (t4 ^ get16(((uint64_t)get8(p0_now + 7) << 1) + address(sedge_fecf_tables + 4096))) ^
-                get16(((uint64_t)get8(p0_now + 6) << 1) + address(sedge_fecf_tables + 4608));
-            t6 = (t5 ^ get16(((uint64_t)get8(p0_now + 5) << 1) + address(sedge_fecf_tables + 5120))) ^
-                get16(((uint64_t)get8(p0_now + 4) << 1) + address(sedge_fecf_tables + 5632));
-            t7 = (t6 ^ get16(((uint64_t)get8(p0_now + 3) << 1) + address(sedge_fecf_tables + 6144))) ^
-                get16(((uint64_t)get8(p0_now + 2) << 1) + address(sedge_fecf_tables + 6656));
-            v2 = (t7 ^ get16((((uint64_t)(get8(p0_now + 1) ^ v2) & 255) << 1) + address(sedge_fecf_tables + 7168))) ^
-                get16((((uint64_t)(get8(p0_now) ^ v3) & 255) << 1) + address(sedge_fecf_tables + 7680));
-            v3 = (v2 & 0xff00) >> 8;
-            p0_now = p0_now + 16;
-            p1_now = p1_now - 16;
-        } while (p1_now >= 16);
-    }
-    if (p1_now >= 8) {
-        t9 = get16(((uint64_t)get8(p0_now + 6) << 1) + address(sedge_fecf_tables + 512)) ^
-            get16(((uint64_t)get8(p0_now + 7) << 1) + address(sedge_fecf_tables));
-        t10 = (t9 ^ get16(((uint64_t)get8(p0_now + 5) << 1) + address(sedge_fecf_tables + 1024))) ^
-            get16(((uint64_t)get8(p0_now + 4) << 1) + address(sedge_fecf_tables + 1536));
-        t11 = (t10 ^ get16(((uint64_t)get8(p0_now + 3) << 1) + address(sedge_fecf_tables + 2048))) ^
-            get16(((uint64_t)get8(p0_now + 2) << 1) + address(sedge_fecf_tables + 2560));
-        v2 = (t11 ^ get16((((uint64_t)(get8(p0_now + 1) ^ v2) & 255) << 1) + address(sedge_fecf_tables + 3072))) ^
-            get16((((uint64_t)(get8(p0_now) ^ (v2 >> 8)) & 255) << 1) + address(sedge_fecf_tables + 3584));
-        p0_now = p0_now + 8;
-        p1_now = p1_now - 8;
-    }
-    if (p1_now == 0) return v2;
-    v4 = 0;
-    if (p1_now != 1) {
-        v5 = p1_now & 1;
-        v6 = p1_now & ~1ULL;
-        do {
-            v7 = p0_now + v4;
-            v8 = get16((((uint64_t)(get8(v7) ^ (v2 >> 8)) & 255) << 1) + address(sedge_fecf_tables));
-            v2 = get16((((uint64_t)(get8(v7 + 1) ^ ((v8 ^ (v2 << 8)) >> 8)) & 255) << 1) + address(sedge_fecf_tables))
-                ^ (v8 << 8);
-            v4 = v4 + 2;
-        } while (v6 != v4);
-        if (v5 == 0) return v2;
-    }
-    v9 = get16((((uint64_t)(get8(p0_now + v4) ^ (v2 >> 8)) & 255) << 1) + address(sedge_fecf_tables)) ^ (v2 << 8);
-    return v9;
-}
-#else
-static uint32_t octets_frame_check_check(uint64_t p0, uint64_t p1)
-{
-    uint32_t v2, v3, v8;
-    uint64_t v4, v5, v6, v7;
-    v2 = 0xffff;
-    if (p1 == 0) return 0xffff;
-    v4 = 0;
-    if (p1 != 1) {
-        v5 = p1 & 1;
-        v6 = p1 & ~1ULL;
-        do {
-            v7 = p0 + v4;
-            v3 = get16((((uint64_t)(get8(v7) ^ (v2 >> 8)) & 255) << 1) + address(sedge_fecf_tables));
-            v2 = get16((((uint64_t)(get8(v7 + 1) ^ ((v3 ^ (v2 << 8)) >> 8)) & 255) << 1) + address(sedge_fecf_tables))
-                ^ (v3 << 8);
-            v4 = v4 + 2;
-        } while (v6 != v4);
-        if (v5 == 0) return v2;
-    }
-    v8 = get16((((uint64_t)(get8(p0 + v4) ^ (v2 >> 8)) & 255) << 1) + address(sedge_fecf_tables)) ^ (v2 << 8);
-    return v8;
-}
-#endif
-
 /* nodes::ground_node::Ground::tick, crates/nodes/src/ground_node.rt:233 */
 static void nodes_ground_node_Ground_tick(uint64_t p0, uint64_t p1)
 {
@@ -5064,6 +6991,77 @@ l1:;
     nodes_ground_node_Ground_refill(p1);
     put8(p0 + 1, v2);
     put8(p0, v8);
+    return;
+}
+
+/* nodes::ground_node::Ground::resume, crates/nodes/src/ground_node/fates.rt:73 */
+static void nodes_ground_node_Ground_resume(uint64_t p0, uint64_t p1, uint32_t p2)
+{
+    unsigned char frame_octets[16 + 15];
+    uint32_t v4, v6, v2, v8, v9, t1, v19, v20;
+    uint64_t v3, v5, v18, v7, v10, v11, v21, v12, v13, v14, v15, v16, v17, v22, v23;
+    v3 = aligned(frame_octets);
+    v4 = get8(p1 + 73);
+    put32(v3 + 8, 5);
+    v5 = 0;
+    v6 = 6;
+    if (v4 != 5) {
+        v2 = 1;
+        goto l1;
+    }
+    v2 = 1;
+    if (get8(p1 + 296) != 1) goto l1;
+    v18 = 0;
+    v7 = 0;
+    v8 = get8(p1 + 74);
+    v9 = get8(p1 + 75);
+    if (v8 != v9) {
+        t1 = (v8 - v9) & 255;
+        v19 = p2 - v9;
+        v20 = t1 < (v19 & 255);
+        if (v20 != 0) {
+            v5 = 0;
+            goto l1;
+        }
+        v7 = (uint64_t)((v20 != 0) ? 0U : v19) & 255;
+    }
+    v10 = get64(p1 + 248);
+    v11 = get64(p1 + 264);
+    if (v11 != 0) {
+        v21 = get64(p1 + 288);
+        v12 = v21 - v11;
+        v13 = v11 - v21;
+        v14 = get64(p1 + 256);
+        v18 = 0;
+        v15 = p1 + 280;
+        do {
+            if (v18 < v13) {
+                v16 = v14 + (get64(v15) << 3);
+                v17 = v18;
+            } else {
+                v17 = v12 + v18;
+                v16 = v14;
+            }
+            v22 = get64(v16 + (v17 << 3));
+            v23 = (v22 > 1) ? v22 : 1ULL;
+            if (v7 < v23) goto l5;
+            v7 = v7 - v23;
+            v18 = v18 + 1;
+        } while (v11 != v18);
+        v18 = v11;
+    }
+l5:;
+    put8(v3 + 9, p2);
+    nodes_ground_node_Ground_directive(v3 + 13, p1, v3 + 8);
+    put8(v3 + 8, 2);
+    nodes_ground_node_Ground_directive(v3 + 13, p1, v3 + 8);
+    v5 = v18 + v10;
+    v2 = 0;
+    v6 = 0;
+l1:;
+    put8(p0, v2);
+    put64(p0 + 8, v5);
+    put8(p0 + 1, v6);
     return;
 }
 
@@ -8171,135 +10169,6 @@ static void simulated_link_world_World_begin(uint64_t p0, uint64_t p1, uint32_t 
     return;
 }
 
-/* tc_frame::encoding::encode, crates/tc_frame/src/encoding.rt:18 */
-static void tc_frame_encoding_encode(uint64_t p0, uint64_t p1, uint64_t p2, uint64_t p3)
-{
-    uint32_t v5, v6, v7, v8, v3, v13, v14, v22, v34;
-    uint64_t v4, v9, v2, v15, v10, v16, v11, v17, v12, v18, v19, v20, v21, v23, v24, v25, v26, v27, v28, v29, v30,
-        v31, v32, v33;
-    v4 = 0;
-    v5 = 10;
-    v6 = 1;
-    v7 = get16(p1);
-    if (v7 > 0x3ff || get8(p1 + 2) > 63) goto l1;
-    v8 = get8(p1 + 8);
-    if (v8 != 2) {
-        if (get8(p1 + 17) > 63) goto l1;
-        v9 = get64(p1 + 32);
-        if (v9 == 0 || (v9 + 8) >= 0x401) goto l1;
-        v2 = get64(p1 + 32) + 8;
-        if (p3 < v2) {
-            v5 = 9;
-            goto l1;
-        }
-        v3 = (v8 != 0) ? 0x2000U : 0U;
-        v4 = v2;
-    } else {
-        v3 = 0x3000;
-        v4 = (get8(p1 + 9) != 0) ? 10ULL : 8ULL;
-        if (p3 < v4) {
-            v5 = 9;
-            v4 = 0;
-            goto l1;
-        }
-    }
-    v13 = v3 | v7;
-    put16(p2, (v13 << 8) | (v13 >> 8));
-    v14 = ((uint32_t)v4 + (get8(p1 + 2) << 10)) - 1;
-    put16(p2 + 2, (v14 << 8) | ((v14 & 0xff00) >> 8));
-    switch ((uint32_t)(uint64_t)get8(p1 + 8)) {
-    case 1:
-        put8(p2 + 4, 0);
-        put8(p2 + 5, (get8(p1 + 16) << 6) + get8(p1 + 17));
-        v15 = p2 + 6;
-        v10 = get64(p1 + 24);
-        v16 = get64(p1 + 32);
-        if ((v15 - v10) >= v16) {
-            if (v16 == 0) break;
-            copy(v15, v10, v16);
-        } else {
-            v11 = v16 & 3;
-            v17 = 0;
-            if (v16 >= 4) {
-                v12 = v16 & ~3ULL;
-                do {
-                    v18 = p2 + v17;
-                    v19 = v10 + v17;
-                    put8(v18 + 6, get8(v19));
-                    put8(v18 + 7, get8(v19 + 1));
-                    put8(v18 + 8, get8(v19 + 2));
-                    put8(v18 + 9, get8(v19 + 3));
-                    v17 = v17 + 4;
-                } while (v12 != v17);
-                if (v11 == 0) break;
-            }
-            v20 = v10 + v17;
-            v21 = v17 + p2 + 6;
-            do {
-                put8(v21, get8(v20));
-                v21 = v21 + 1;
-                v20 = v20 + 1;
-                v11 = v11 - 1;
-            } while (v11 != 0);
-        }
-        break;
-    case 2:
-        v22 = 0;
-        put8(p2 + 4, 0);
-        if (get8(p1 + 9) != 0) {
-            put8(p2 + 7, get8(p1 + 10));
-            put8(p2 + 6, 0);
-            v22 = 130;
-        }
-        put8(p2 + 5, v22);
-        break;
-    default:
-        put8(p2 + 4, get8(p1 + 9));
-        put8(p2 + 5, (get8(p1 + 16) << 6) + get8(p1 + 17));
-        v23 = p2 + 6;
-        v24 = get64(p1 + 24);
-        v25 = get64(p1 + 32);
-        if ((v23 - v24) >= v25) {
-            if (v25 != 0) copy(v23, v24, v25);
-        } else {
-            v26 = v25 & 3;
-            v27 = 0;
-            if (v25 >= 4) {
-                v28 = v25 & ~3ULL;
-                do {
-                    v29 = p2 + v27;
-                    v30 = v24 + v27;
-                    put8(v29 + 6, get8(v30));
-                    put8(v29 + 7, get8(v30 + 1));
-                    put8(v29 + 8, get8(v30 + 2));
-                    put8(v29 + 9, get8(v30 + 3));
-                    v27 = v27 + 4;
-                } while (v28 != v27);
-                if (v26 == 0) break;
-            }
-            v31 = v24 + v27;
-            v32 = v27 + p2 + 6;
-            do {
-                put8(v32, get8(v31));
-                v32 = v32 + 1;
-                v31 = v31 + 1;
-                v26 = v26 - 1;
-            } while (v26 != 0);
-        }
-        break;
-    }
-    v33 = v4 - 2;
-    v34 = octets_frame_check_check(p2, v33);
-    put16(p2 + v33, (v34 << 8) | ((v34 & 0xff00) >> 8));
-    v6 = 0;
-    v5 = 0;
-l1:;
-    put8(p0, v6);
-    put64(p0 + 8, v4);
-    put8(p0 + 1, v5);
-    return;
-}
-
 static uint32_t std_alloc_vec_deque_VecDeque_grow_1598ebf9113514c4(uint64_t p0)
 {
     unsigned char frame_octets[80 + 15];
@@ -8772,12 +10641,12 @@ static uint64_t tm_link_builder_TmBuilder_build_in(uint64_t p0, uint32_t p1, uin
     v18 = (v5 < v12) ? v5 : v12;
     v19 = v5 - v18;
     v20 = v3 + v18;
-    v27 = address(constant_36 + 7) - v12;
+    v27 = address(constant_45 + 7) - v12;
     if ((v3 - v27) < v18) {
         v21 = v18 & 3;
         v22 = 0;
         if (v18 >= 4) {
-            v28 = address(constant_36) - v12;
+            v28 = address(constant_45) - v12;
             v23 = v18 & ~3ULL;
             do {
                 put32(p2 + v22 + 6, get32(v28 + v22 + 7));
@@ -8786,7 +10655,7 @@ static uint64_t tm_link_builder_TmBuilder_build_in(uint64_t p0, uint32_t p1, uin
             if (v21 == 0) goto l5;
         }
         v29 = v22 + p2 + 6;
-        v30 = v22 - v12 + address(constant_36 + 7);
+        v30 = v22 - v12 + address(constant_45 + 7);
         do {
             put8(v29, get8(v30));
             v29 = v29 + 1;
@@ -8826,9 +10695,9 @@ l5:;
 l10:;
     v39 = v20 + v24;
     if (v25 <= 6) {
-        if ((v39 - address(constant_36)) >= v25) {
+        if ((v39 - address(constant_45)) >= v25) {
             if (v25 == 0) goto l15;
-            copy(v39, address(constant_36), v25);
+            copy(v39, address(constant_45), v25);
         } else {
             v40 = v25 & 3;
             v41 = 0;
@@ -8837,7 +10706,7 @@ l10:;
                 v43 = p2 + v42;
                 v44 = v25 & 4;
                 do {
-                    put32(v43 + v41 + 6, get32(v41 + address(constant_36)));
+                    put32(v43 + v41 + 6, get32(v41 + address(constant_45)));
                     v41 = v41 + 4;
                 } while (v44 != v41);
                 if (v40 == 0) goto l15;
@@ -8845,13 +10714,13 @@ l10:;
             v45 = 0 - v40;
             v46 = p2 + v42;
             do {
-                put8(v46 + v41 + 6, get8(v41 + address(constant_36)));
+                put8(v46 + v41 + 6, get8(v41 + address(constant_45)));
                 v41 = v41 + 1;
                 v45 = v45 + 1;
             } while (v45 != 0);
         }
     } else {
-        if ((v39 - address(constant_36)) <= 3) {
+        if ((v39 - address(constant_45)) <= 3) {
             put32(v39, 0xc0ff07);
         } else {
             put32(v39, 0xc0ff07);
@@ -9541,6 +11410,494 @@ l3:;
     return 0;
 }
 
+/* sedge_commander_open, crates/sedgechisel_nodes/src/commanding.rt:110 */
+static uint32_t sedge_commander_open_at(uint64_t commander, uint64_t config, uint64_t mission, uint64_t store,
+    uint64_t store_count, uint64_t good)
+{
+    unsigned char frame_octets[2288 + 15];
+    uint32_t holds, map, orders, status, round_trip, v14, v15, v7, v5, v26, v27, t1, v42, v29, v30, v31, v48, v33,
+        v34, v35, v36, v37, v38, v49, v39, v51, v56, v58, v60, v61, v62, v63, v64, v65, v66, v68, t6, v69, t7, v8,
+        v92, v93, v94, v95, v11;
+    uint64_t v6, v13, v16, v17, v18, v2, v19, v20, v21, v22, v23, v24, v25, v3, v4, v40, v41, v43, v44, v45, v28, t3,
+        v46, v47, v32, v50, v52, v53, v54, t4, v55, t5, v57, v59, v67, v70, v71, v72, v73, v74, v75, v76, v77, v78,
+        v79, v80, v81, v82, v83, v84, v85, v86, v87, v88, v89, v90, v91, new_node, node;
+    v6 = aligned(frame_octets);
+    fill(v6 + 112, 0, 392);
+    fill(v6 + 44, 0, 68);
+    put64(v6 + 32, 0);
+    put64(v6 + 24, 0);
+    put16(v6 + 20, 0);
+    put8(v6 + 22, 0);
+    put64(v6 + 1624, 0);
+    put64(v6 + 1616, 0);
+    put64(v6 + 1608, 0);
+    nodes_config_Config_fault(v6 + 0x648, config);
+    if (get8(v6 + 1608) != 0) return SEDGE_LEDGER_OUT_OF_RANGE;
+    copy(v6 + 504, config, 72);
+    holds = get8(mission + 9 /* holds */);
+    if (holds > 1) return SEDGE_LEDGER_OUT_OF_RANGE;
+    map = get8(mission + 8 /* map */);
+    orders = get16(mission + 4 /* orders */);
+    status = get16(mission + 6 /* status */);
+    round_trip = get32(mission /* round_trip */);
+    fill(v6 + 604, 0, 68);
+    put64(v6 + 592, 0);
+    put64(v6 + 584, 0);
+    put16(v6 + 580, 0);
+    put8(v6 + 582, 0);
+    fill(v6 + 0x648, 0, 408);
+    if (orders > 0x7fe || (map & 255) > 63) return SEDGE_LEDGER_FIELD_RANGE;
+    v13 = get64(v6 + 544);
+    if (((uint32_t)(v13 >> (((uint64_t)map & 255) & 63)) & 1) == 0) return SEDGE_LEDGER_FIELD_RANGE;
+    v14 = get32(v6 + 532);
+    if (v14 < 23) return SEDGE_LEDGER_TOO_LONG;
+    v15 = get32(v6 + 536);
+    if (v15 < 23) return SEDGE_LEDGER_TOO_LONG;
+    v16 = (uint64_t)get32(v6 + 560);
+    v7 = 0;
+    put16(v6 + 760, 0);
+    put8(v6 + 762, 0);
+    fill(v6 + 692, 0, 68);
+    v17 = 0;
+    put64(v6 + 680, 0);
+    put64(v6 + 672, 0);
+    fill(v6 + 936, 0, 72);
+    put64(v6 + 1016, 0);
+    put64(v6 + 1024, 0);
+    put64(v6 + 1032, 0);
+    put64(v6 + 1040, 0);
+    put64(v6 + 1056, 0);
+    put64(v6 + 1064, 0);
+    put64(v6 + 1072, 0);
+    put64(v6 + 1080, 0);
+    put64(v6 + 1088, 0);
+    put64(v6 + 1008, v6 + 0x8e8);
+    put64(v6 + 1048, v6 + 0x8e8);
+    if (store_count == 0) {
+        v18 = v6 + 0x8e8;
+        v2 = 0;
+        goto l3;
+    }
+    v19 = some(store);
+    v20 = v6 + 837;
+    v21 = v6 + 793;
+    v22 = v6 + 856 + 9;
+    v23 = (v6 + 904) | 1;
+    v24 = v6 + 776 + 56;
+    v25 = store_count;
+    v2 = 0;
+    for (;;) {
+        put64(v24 + 16, 0);
+        put64(v24 + 8, 0);
+        put64(v24, 0);
+        v3 = store_count - v2;
+        if (v3 < 9) goto l8;
+        v4 = v19 + v2;
+        v5 = get32(v4);
+        v26 = rotl32(v5 & 0xff00ff, 24) | (rotl32(v5, 8) & 0xff00ff);
+        if (v26 < 9) goto l8;
+        v40 = (uint64_t)v26;
+        if (v3 < v40) goto l8;
+        v41 = v40 - 4;
+        v27 = get32(v4 + v41);
+        t1 = command_log_crc_check_after(0, v4, v41);
+        if ((rotl32(v27 & 0xff00ff, 24) | (rotl32(v27, 8) & 0xff00ff)) != t1) goto l8;
+        v42 = get8(v4 + 4);
+        put32(v6 + 896, 0);
+        put32(v6 + 899, 0);
+        put16(v6 + 892, 0);
+        put8(v6 + 894, 0);
+        v43 = v40 - 9;
+        v44 = v4 + 5;
+        switch (v42) {
+        case 1:
+            if (v26 < 18) goto l8;
+            v45 = get64(v44);
+            v28 = ((v45 << 56) | ((v45 & 0xff00) << 40)) | (((v45 & 0xff0000) << 24) | ((v45 & 0xff000000ULL) << 8));
+            t3 = (((v45 >> 8) & 0xff000000ULL) | ((v45 >> 24) & 0xff0000)) | (((v45 >> 40) & 0xff00) | (v45 >> 56));
+            v29 = (uint32_t)t3;
+            v46 = v40 - 18;
+            v47 = v4 + 14;
+            v30 = get8(v4 + 13);
+            v31 = 0;
+            v32 = 0;
+            v48 = 0;
+            v33 = 0;
+            v34 = 0;
+            v35 = 0;
+            v36 = 0;
+            v37 = 0;
+            v38 = 0;
+            v49 = 0;
+            v39 = 0;
+            goto l10;
+        case 2:
+            if (v43 != 21) goto l8;
+            command_log_record_decode_fields(v6 + 856, v44);
+            v31 = 0;
+            put16(v6 + 892, 0);
+            put8(v6 + 894, 0);
+            put32(v6 + 896, get32(v22));
+            put32(v6 + 899, get32(v22 + 3));
+            v50 = get64(v6 + 856);
+            v28 = v50 & 0xffffffff00000000ULL;
+            v29 = (uint32_t)v50;
+            v49 = 1;
+            v32 = 0;
+            v46 = get64(v6 + 880);
+            v47 = get64(v6 + 872);
+            v30 = get8(v6 + 864);
+            v48 = 0;
+            v33 = 0;
+            v34 = 0;
+            v35 = 0;
+            v36 = 0;
+            v37 = 0;
+            v38 = 0;
+            v39 = 0;
+            goto l10;
+        case 3:
+            if (v43 != 4) goto l8;
+            v51 = get32(v44);
+            v39 = rotl32(v51 & 0xff00ff, 24) | (rotl32(v51, 8) & 0xff00ff);
+            v49 = 2;
+            v28 = 0;
+            v29 = 0;
+            goto l11;
+        case 4:
+            if (v43 != 12) goto l8;
+            v52 = (uint64_t)get32(v4 + 13);
+            v53 = (uint64_t)get32(v4 + 9);
+            v54 = v53 << 32;
+            t4 = (v52 << 56) | ((v52 & 0xff00) << 40);
+            v55 = v54 | v52;
+            v28 = t4 | (((v55 & 0xff0000) << 24) | ((v55 & 0xff000000ULL) << 8));
+            t5 = (((v53 << 24) & 0xff000000ULL) | ((v53 << 8) & 0xff0000)) | (((v53 >> 8) & 0xff00) | (v54 >> 56));
+            v29 = (uint32_t)t5;
+            v56 = get32(v44);
+            v39 = rotl32(v56 & 0xff00ff, 24) | (rotl32(v56, 8) & 0xff00ff);
+            v49 = 3;
+            goto l11;
+        case 5:
+            v30 = 0;
+            put32(v6 + 771, 0);
+            put32(v6 + 768, 0);
+            put16(v6 + 764, 0);
+            put8(v6 + 766, 0);
+            v57 = 0;
+            if (v43 != 0) goto l8;
+            v49 = 4;
+            v39 = 0;
+            v38 = 0;
+            v37 = 0;
+            v36 = 0;
+            v35 = 0;
+            v34 = 0;
+            v33 = 0;
+            v48 = 0;
+            v31 = 0;
+            v32 = 0;
+            v46 = 0;
+            v47 = 0;
+            goto l9;
+        case 6:
+            break;
+        default:
+            goto l8;
+        }
+        if (v43 != 48) goto l8;
+        v58 = get32(v44);
+        command_log_record_decode_fields(v6 + 904, v4 + 9);
+        v59 = v4 + 30;
+        v36 = 0;
+        v48 = 0;
+        v33 = 0;
+        if (get8(v4 + 34) == 1) {
+            v60 = get32(v4 + 35);
+            v33 = rotl32(v60 & 0xff00ff, 24) | (rotl32(v60, 8) & 0xff00ff);
+            v48 = 1;
+        }
+        v61 = get32(v59);
+        v62 = get8(v4 + 39);
+        v37 = 0;
+        v38 = 0;
+        v35 = 0;
+        if (get8(v4 + 40) == 1) {
+            v63 = get32(v4 + 49);
+            v38 = rotl32(v63 & 0xff00ff, 24) | (rotl32(v63, 8) & 0xff00ff);
+            v64 = get32(v4 + 45);
+            v37 = rotl32(v64 & 0xff00ff, 24) | (rotl32(v64, 8) & 0xff00ff);
+            v65 = get32(v4 + 41);
+            v36 = rotl32(v65 & 0xff00ff, 24) | (rotl32(v65, 8) & 0xff00ff);
+            v35 = 1;
+        }
+        put32(v6 + 896, get32(v23));
+        put32(v6 + 899, get32(v23 + 3));
+        v39 = 0;
+        put16(v6 + 892, 0);
+        put8(v6 + 894, 0);
+        v29 = rotl32(v58 & 0xff00ff, 24) | (rotl32(v58, 8) & 0xff00ff);
+        v31 = rotl32(v61 & 0xff00ff, 24) | (rotl32(v61, 8) & 0xff00ff);
+        v34 = (v62 & 255) == 1;
+        v30 = get8(v6 + 904);
+        v47 = get64(v6 + 912);
+        v46 = get64(v6 + 920);
+        v32 = get64(v6 + 928);
+        v49 = 5;
+        v28 = 0;
+        goto l10;
+    l11:;
+        v30 = 0;
+        v47 = 0;
+        v46 = 0;
+        v32 = 0;
+        v31 = 0;
+        v48 = 0;
+        v33 = 0;
+        v34 = 0;
+        v35 = 0;
+        v36 = 0;
+        v37 = 0;
+        v38 = 0;
+    l10:;
+        put32(v6 + 771, get32(v6 + 899));
+        put32(v6 + 768, get32(v6 + 896));
+        put16(v6 + 764, get16(v6 + 892));
+        put8(v6 + 766, get8(v6 + 894));
+        v57 = v28 | (uint64_t)v29;
+    l9:;
+        put32(v21, get32(v6 + 768));
+        put32(v21 + 3, get32(v6 + 771));
+        put16(v20, get16(v6 + 764));
+        put8(v20 + 2, get8(v6 + 766));
+        put8(v6 + 792, v30);
+        put64(v6 + 784, v57);
+        put32(v6 + 780, v39);
+        put32(v6 + 776, v49);
+        put8(v6 + 836, v34);
+        put32(v6 + 832, v33);
+        put32(v6 + 828, v48);
+        put32(v6 + 824, v31);
+        put64(v6 + 816, v32);
+        put64(v6 + 808, v46);
+        put64(v6 + 800, v47);
+        put32(v6 + 852, v38);
+        put32(v6 + 848, v37);
+        put32(v6 + 844, v36);
+        put32(v6 + 840, v35);
+        if (v49 == 0) {
+            if (v46 > 0x10006) goto l8;
+            v66 = get32(v6 + 936) + get32(v6 + 1016);
+            if (v66 == ~0U || v46 < 14 || (get8(v47) & 248) != 16 || get8(v47 + 2) < 192 || ((((uint64_t)get8(v47 + 4)
+                << 8) | (uint64_t)get8(v47 + 5)) + 7) != v46) goto l8;
+            v67 = v46 - 4;
+            v68 = get32(v47 + v67);
+            t6 = command_log_crc_check_after(0, v47, v67);
+            if ((rotl32(v68 & 0xff00ff, 24) | (rotl32(v68, 8) & 0xff00ff)) != t6) goto l8;
+            v69 = get32(v47 + 6);
+            if (v69 == 0 || ((uint64_t)v66 + 1) != (uint64_t)(rotl32(v69 & 0xff00ff, 24) | (rotl32(v69, 8) &
+                0xff00ff))) goto l8;
+        }
+        t7 = command_ledger_state_State_apply(v6 + 936, v6 + 776);
+        if ((t7 & 255) != 0) {
+            v70 = get64(v6 + 1024);
+            v71 = get64(v6 + 1008);
+            v72 = get64(v6 + 1016);
+            if (v72 != 0) {
+                v73 = get64(v6 + 1032);
+                v74 = get64(v6 + 1040);
+                v75 = v72 - v74;
+                if (v73 < (v73 + v75)) {
+                    v76 = ((v73 * 40) + v71) + 24;
+                    do {
+                        if (get64(v76) != 0) rattle_dealloc_at(get64(v76 - 16));
+                        v76 = v76 + 40;
+                        v75 = v75 - 1;
+                    } while (v75 != 0);
+                }
+                if (v74 != 0) {
+                    v77 = v71 + 24;
+                    do {
+                        if (get64(v77) != 0) rattle_dealloc_at(get64(v77 - 16));
+                        v77 = v77 + 40;
+                        v74 = v74 - 1;
+                    } while (v74 != 0);
+                }
+            }
+            if (v70 != 0) rattle_dealloc_at(v71);
+            if (get64(v6 + 1064) != 0) rattle_dealloc_at(get64(v6 + 1048));
+            return SEDGE_LEDGER_MEMORY;
+        }
+        if (v5 != 0) {
+            v2 = v2 + v40;
+            v25 = v25 - 1;
+            if (v25 == 0) break;
+            continue;
+        }
+    l8:;
+        v7 = get32(v6 + 936);
+        copy(v6 + 692, (v6 + 936) | 4, 68);
+        v17 = get64(v6 + 1016);
+        v18 = get64(v6 + 1008);
+        goto l2;
+    }
+    v18 = get64(v6 + 1008);
+    v17 = get64(v6 + 1016);
+    v7 = get32(v6 + 936);
+l3:;
+    copy(v6 + 692, (v6 + 936) | 4, 68);
+l2:;
+    put64(v6 + 672, get64(v6 + 1072));
+    put64(v6 + 680, get64(v6 + 1080));
+    v78 = get64(v6 + 1064);
+    v79 = get64(v6 + 1056);
+    v80 = get64(v6 + 1048);
+    v81 = get64(v6 + 1040);
+    v82 = get64(v6 + 1032);
+    v83 = get64(v6 + 1024);
+    v84 = get64(v6 + 1088);
+    copy(v6 + 604, v6 + 692, 68);
+    put64(v6 + 592, get64(v6 + 680));
+    put64(v6 + 584, get64(v6 + 672));
+    put16(v6 + 580, get16(v6 + 760));
+    put8(v6 + 582, get8(v6 + 762));
+    nodes_ground_node_Ground_of(v6 + 0x648, v6 + 504);
+    if (get8(v6 + 1608) != 0) {
+        if (v17 != 0) {
+            v85 = v17 - v81;
+            if (v82 < (v85 + v82)) {
+                v86 = ((v82 * 40) + v18) + 24;
+                do {
+                    if (get64(v86) != 0) rattle_dealloc_at(get64(v86 - 16));
+                    v86 = v86 + 40;
+                    v85 = v85 - 1;
+                } while (v85 != 0);
+            }
+            if (v81 != 0) {
+                v87 = v18 + 24;
+                do {
+                    if (get64(v87) != 0) rattle_dealloc_at(get64(v87 - 16));
+                    v87 = v87 + 40;
+                    v81 = v81 - 1;
+                } while (v81 != 0);
+            }
+        }
+        if (v83 != 0) rattle_dealloc_at(v18);
+        if (v78 == 0) return SEDGE_LEDGER_MEMORY;
+        rattle_dealloc_at(v80);
+        return SEDGE_LEDGER_MEMORY;
+    }
+    v8 = ((holds == 1) ? 0x10000U : 0U) | status;
+    v88 = (uint64_t)v15;
+    v89 = v16 * (uint64_t)v14;
+    v90 = (v88 < v89) ? v88 : v89;
+    v91 = get64(v6 + 1616);
+    v92 = get32(v6 + 568);
+    copy(v6 + 112, v6 + 0x658, 392);
+    copy(v6 + 44, v6 + 604, 68);
+    put64(v6 + 32, get64(v6 + 592));
+    put64(v6 + 24, get64(v6 + 584));
+    put16(v6 + 20, get16(v6 + 580));
+    put8(v6 + 22, get8(v6 + 582));
+    rattle_alloc_at(v6, 672, 8);
+    v93 = v92 == 1;
+    v94 = round_trip + 1;
+    v95 = (v94 != 0) ? v94 : ~0U;
+    v11 = v7 + (uint32_t)v17;
+    if (((uint32_t)get64(v6) & 1) == 0) {
+        copy(v6 + 936 + 8, v6 + 112, 392);
+        put32(v6 + 1344, v7);
+        put64(v6 + 1336, v90);
+        copy(v6 + 0x544, v6 + 44, 68);
+        put64(v6 + 1472, v78);
+        put64(v6 + 1464, v79);
+        put64(v6 + 1456, v80);
+        put64(v6 + 1448, v81);
+        put64(v6 + 1440, v82);
+        put64(v6 + 1432, v83);
+        put64(v6 + 1424, v17);
+        put64(v6 + 1416, v18);
+        put64(v6 + 1512, 0);
+        put64(v6 + 1496, v84);
+        put64(v6 + 1520, 0);
+        put8(v6 + 1528, 0);
+        put64(v6 + 1480, get64(v6 + 24));
+        put64(v6 + 1488, get64(v6 + 32));
+        put16(v6 + 1529, get16(v6 + 20));
+        put8(v6 + 1531, get8(v6 + 22));
+        put64(v6 + 1504, v6 + 0x8e8);
+        put8(v6 + 1576, v93);
+        put64(v6 + 1568, v13);
+        put32(v6 + 1564, v15);
+        put32(v6 + 1560, v14);
+        put32(v6 + 1556, 0);
+        put32(v6 + 1552, v8);
+        put16(v6 + 1550, orders);
+        put8(v6 + 1549, 0);
+        put8(v6 + 1548, map);
+        put32(v6 + 1544, round_trip);
+        put64(v6 + 1536, v2);
+        put32(v6 + 1532, v11);
+        put64(v6 + 1577, 0);
+        put32(v6 + 1584, 0);
+        put64(v6 + 1592, 0);
+        put32(v6 + 1588, v95);
+        put64(v6 + 1600, 0);
+        put64(v6 + 936, v91);
+        sedgechisel_nodes_commander_commander_Commander_Destruct_drop(v6 + 936);
+        return SEDGE_LEDGER_MEMORY;
+    }
+    new_node = get64(v6 + 8);
+    put64(new_node, v91);
+    copy(new_node + 8, v6 + 112, 392);
+    put32(new_node + 408, v7);
+    put64(new_node + 400, v90);
+    copy(new_node + 412, v6 + 44, 68);
+    put64(new_node + 536, v78);
+    put64(new_node + 528, v79);
+    put64(new_node + 520, v80);
+    put64(new_node + 512, v81);
+    put64(new_node + 504, v82);
+    put64(new_node + 496, v83);
+    put64(new_node + 488, v17);
+    put64(new_node + 480, v18);
+    put64(new_node + 576, 0);
+    put64(new_node + 560, v84);
+    put64(new_node + 584, 0);
+    put8(new_node + 592, 0);
+    put64(new_node + 544, get64(v6 + 24));
+    put64(new_node + 552, get64(v6 + 32));
+    put16(new_node + 593, get16(v6 + 20));
+    put8(new_node + 595, get8(v6 + 22));
+    put64(new_node + 568, v6 + 0x8e8);
+    put8(new_node + 640, v93);
+    put64(new_node + 632, v13);
+    put32(new_node + 628, v15);
+    put32(new_node + 624, v14);
+    put32(new_node + 620, 0);
+    put32(new_node + 616, v8);
+    put16(new_node + 614, orders);
+    put8(new_node + 613, 0);
+    put8(new_node + 612, map);
+    put32(new_node + 608, round_trip);
+    put64(new_node + 600, v2);
+    put32(new_node + 596, v11);
+    put64(new_node + 641, 0);
+    put32(new_node + 648, 0);
+    put64(new_node + 656, 0);
+    put32(new_node + 652, v95);
+    put64(new_node + 664, 0);
+    node = get64(commander /* node */);
+    put64(commander /* node */, new_node);
+    if (node != 0) {
+        copy(v6 + 0x648, node, 672);
+        rattle_dealloc_at(node);
+        sedgechisel_nodes_commander_commander_Commander_Destruct_drop(v6 + 0x648);
+    }
+    put64(good, v2);
+    return SEDGE_NODE_OK;
+}
+
 /* sedge_config_default, crates/sedgechisel_nodes/src/parameters.rt:41 */
 static void sedge_config_default_at(uint64_t config)
 {
@@ -9574,7 +11931,7 @@ static uint32_t sedge_config_fault_at(uint64_t config)
     do {
         v4 = get8(v6 + address(constant_0 + 15));
         v5 = ((uint64_t)v4 & 255) << 3;
-        if (v2 == get64(v5 + address(switch_table_sedge_config_fault_419))) {
+        if (v2 == get64(v5 + address(switch_table_sedge_config_fault_513))) {
             v7 = address(switch_table_sedge_config_fault[v5 / 8]);
             if (get8(v3) == get8(v7) && (get8(v3 + 1) & 255) == (get8(v7 + 1) & 255) && (get8(v3 + 2) & 255) ==
                 (get8(v7 + 2) & 255) && (get8(v3 + 3) & 255) == (get8(v7 + 3) & 255)) {
@@ -9926,7 +12283,31 @@ l12:;
     return SEDGE_NODE_MEMORY;
 }
 
-/* sedge_link_fault_name, crates/sedgechisel_nodes/src/names.rt:24 */
+/* sedge_ledger_fault_name, crates/sedgechisel_nodes/src/names.rt:43 */
+static uint64_t sedge_ledger_fault_name_at(uint64_t result, uint32_t number)
+{
+    unsigned char frame_octets[16 + 15];
+    uint32_t v2, v6;
+    uint64_t v3, v4, v5;
+    v2 = 0;
+    v3 = aligned(frame_octets);
+    put16(v3 + 8, 0);
+    put64(v3, 0);
+    v4 = 63;
+    v6 = number - 1;
+    if ((v6 & 255) <= 8) {
+        v5 = (uint64_t)v6 & 255;
+        v4 = get64((v5 << 3) + address(switch_table_sedge_ledger_fault_name_514));
+        v2 = get16((v5 << 1) + address(switch_table_sedge_ledger_fault_name));
+    }
+    put16(result + 8, v2);
+    put64(result, v4);
+    put64(result + 10, get64(v3));
+    put16(result + 18, get16(v3 + 8));
+    return result;
+}
+
+/* sedge_link_fault_name, crates/sedgechisel_nodes/src/names.rt:25 */
 static uint64_t sedge_link_fault_name_at(uint64_t result, uint32_t number)
 {
     unsigned char frame_octets[16 + 15];
@@ -9941,9 +12322,9 @@ static uint64_t sedge_link_fault_name_at(uint64_t result, uint32_t number)
     v6 = number - 1;
     if ((v6 & 255) <= 9) {
         v7 = (uint64_t)v6 & 255;
-        v5 = get8(v7 + address(switch_table_sedge_link_fault_name_420));
+        v5 = get8(v7 + address(switch_table_sedge_link_fault_name_515));
         v2 = get8(v7 + address(switch_table_sedge_link_fault_name));
-        v4 = get64((v7 << 3) + address(switch_table_sedge_link_fault_name_421));
+        v4 = get64((v7 << 3) + address(switch_table_sedge_link_fault_name_516));
     }
     put8(result + 9, v5);
     put8(result + 8, v2);
@@ -9953,7 +12334,7 @@ static uint64_t sedge_link_fault_name_at(uint64_t result, uint32_t number)
     return result;
 }
 
-/* sedge_parameter_name, crates/sedgechisel_nodes/src/names.rt:13 */
+/* sedge_parameter_name, crates/sedgechisel_nodes/src/names.rt:14 */
 static uint64_t sedge_parameter_name_at(uint64_t result, uint32_t number)
 {
     uint32_t v7, v8, v2, v3, v4;
@@ -9967,10 +12348,10 @@ static uint64_t sedge_parameter_name_at(uint64_t result, uint32_t number)
     } else {
         v5 = (uint64_t)v7 & 255;
         v6 = v5 << 2;
-        v8 = get32(v6 + address(switch_table_sedge_parameter_name_424));
-        v4 = get32(v6 + address(switch_table_sedge_parameter_name_423));
+        v8 = get32(v6 + address(switch_table_sedge_parameter_name_519));
+        v4 = get32(v6 + address(switch_table_sedge_parameter_name_518));
         v9 = v5 << 1;
-        v3 = get16(v9 + address(switch_table_sedge_parameter_name_422));
+        v3 = get16(v9 + address(switch_table_sedge_parameter_name_517));
         v2 = get16(v9 + address(switch_table_sedge_parameter_name));
     }
     put64(result + 12, 0);
@@ -9981,7 +12362,7 @@ static uint64_t sedge_parameter_name_at(uint64_t result, uint32_t number)
     return result;
 }
 
-/* sedge_sim_fault_name, crates/sedgechisel_nodes/src/names.rt:34 */
+/* sedge_sim_fault_name, crates/sedgechisel_nodes/src/names.rt:35 */
 static uint64_t sedge_sim_fault_name_at(uint64_t result, uint32_t number)
 {
     unsigned char frame_octets[16 + 15];
@@ -9992,20 +12373,20 @@ static uint64_t sedge_sim_fault_name_at(uint64_t result, uint32_t number)
     case 6:
         put16(v2 + 13, 0);
         put64(v2 + 5, 0);
-        put32(v2, get32(address(constant_25 + 1)));
-        put8(v2 + 4, get8(address(constant_25 + 5)));
+        put32(v2, get32(address(constant_28 + 1)));
+        put8(v2 + 4, get8(address(constant_28 + 5)));
         v3 = 77;
         break;
     case 7:
-        put64(v2 + 7, get64(address(constant_27 + 8)));
-        put64(v2, get64(address(constant_27 + 1)));
+        put64(v2 + 7, get64(address(constant_34 + 8)));
+        put64(v2, get64(address(constant_34 + 1)));
         v3 = 78;
         break;
     case 8:
         put8(v2 + 14, 0);
         put16(v2 + 12, 0);
-        put64(v2, get64(address(constant_28 + 1)));
-        put32(v2 + 8, get32(address(constant_28 + 9)));
+        put64(v2, get64(address(constant_35 + 1)));
+        put32(v2 + 8, get32(address(constant_35 + 9)));
         v3 = 78;
         break;
     default:
@@ -11035,6 +13416,1064 @@ static uint32_t sedge_spacecraft_open_kept_at(uint64_t spacecraft, uint64_t conf
     copy(v3 + 440, node, 344);
     rattle_dealloc_at(node);
     sedgechisel_nodes_nodes_spacecraft_Spacecraft_Destruct_drop(v3 + 440);
+    return SEDGE_NODE_OK;
+}
+
+/* sedge_commander_clcw, crates/sedgechisel_nodes/src/commanding/hearing.rt:66 */
+static uint32_t sedge_commander_clcw_at(uint64_t commander, uint64_t octets, uint64_t count, uint64_t heard)
+{
+    unsigned char frame_octets[16 + 15];
+    uint32_t answer, v7, v8, v9, v6, v10, v11, v3, v12, v13, v14, v15, new_report;
+    uint64_t v4, node, v2;
+    v4 = aligned(frame_octets);
+    node = get64(commander /* node */);
+    put64(commander /* node */, 0);
+    if (node == 0) return SEDGE_NODE_NONE;
+    answer = SEDGE_LEDGER_ABSENT;
+    if (count != 4) {
+        put64(commander /* node */, node);
+        return answer;
+    }
+    v2 = some(octets);
+    v7 = get8(v2 + 3);
+    v8 = get8(v2 + 2);
+    v9 = get8(v2 + 1);
+    v6 = extend32(get8(v2), 0x80);
+    put32(v4 + 12, 0);
+    put32(v4 + 4, 0);
+    put16(v4 + 8, 0);
+    v10 = (v9 << 8) | (v6 & 255);
+    v11 = v8 << 16;
+    if (v6 > 0x7fffffffU) {
+        put32(v4 + 5, 0);
+        put8(v4 + 4, 1);
+        put8(v4 + 9, 0);
+    } else if (v6 >= 32) {
+        put16(v4 + 4, 257);
+    } else if ((v6 & 3) != 1) {
+        put16(v4 + 4, 513);
+    } else if ((v9 & 3) != 0) {
+        put16(v4 + 4, 769);
+    } else if ((v8 & 1) != 0) {
+        put16(v4 + 4, 769);
+    } else {
+        put8(v4 + 9, v7);
+        put8(v4 + 7, v8 & 248);
+        put8(v4 + 6, v9 >> 2);
+        put8(v4 + 8, (v8 >> 1) & 3);
+        put8(v4 + 5, (v6 & 252) >> 2);
+    }
+    v3 = v10 | v11;
+    nodes_ground_node_Ground_report(v4 + 12, node, v4 + 4);
+    v12 = get8(v4 + 15);
+    v13 = get8(v4 + 14);
+    if (v13 == 1) {
+        put16(node + 662, 0);
+        put16(node + 656, 0);
+        put8(node + 660, v12);
+        put8(node + 659, 1);
+        v14 = get32(node + 608) + 1;
+        put32(node + 652, (v14 != 0) ? v14 : ~0U);
+    }
+    v15 = get8(v4 + 13);
+    new_report = get8(v4 + 12);
+    if ((v3 & 0x103e3) == 1 && (new_report & 255) == 0 && get8(node + 73) == 5 && get32(node + 652) == 0) {
+        put8(node + 657, v7);
+        put8(node + 656, 1);
+    }
+    answer = SEDGE_NODE_OK;
+    put8(heard + 15, 0);
+    put8(heard + 12 /* report */, new_report);
+    put32(heard + 8 /* kind, fault, first, missing */, 4);
+    put64(heard /* packets */, 0);
+    put8(heard + 14 /* alert */, (v13 != 0) ? (v12 + 1) : 0U);
+    put8(heard + 13 /* word_fault */, ((new_report & 255) == 1) ? (v15 + 1) : 0U);
+    put64(commander /* node */, node);
+    return answer;
+}
+
+/* sedge_commander_close, crates/sedgechisel_nodes/src/commanding.rt:135 */
+static void sedge_commander_close_at(uint64_t commander)
+{
+    unsigned char frame_octets[672 + 15];
+    uint64_t v1, node;
+    v1 = aligned(frame_octets);
+    node = get64(commander /* node */);
+    put64(commander /* node */, 0);
+    if (node == 0) return;
+    copy(v1, node, 672);
+    rattle_dealloc_at(node);
+    sedgechisel_nodes_commander_commander_Commander_Destruct_drop(v1);
+    return;
+}
+
+/* sedge_commander_command, crates/sedgechisel_nodes/src/commanding/commands.rt:49 */
+static uint32_t sedge_commander_command_at(uint64_t commander, uint64_t tag, uint32_t map, uint32_t apid, uint32_t
+    sequence, uint64_t content, uint64_t content_count, uint64_t number)
+{
+    unsigned char frame_octets[112 + 15];
+    uint32_t v10, v2, v15, v3, answer, v23, v24;
+    uint64_t v8, node, v11, v12, v13, v14, v16, v17, v4, v18, v19, v20, v5, v21, v6, v7, v22;
+    v8 = aligned(frame_octets);
+    node = get64(commander /* node */);
+    put64(commander /* node */, 0);
+    if (node == 0) return SEDGE_NODE_NONE;
+    v10 = 2;
+    if ((map & 255) > 63 || (apid & 0xffff) == 0x7ff || ((uint32_t)(get64(node + 632) >> (((uint64_t)map & 255) & 63))
+        & 1) == 0) goto l4;
+    if ((apid & 0xffff) > 0x7ff || (sequence & 0xffff) > 0x3fff || content_count > 0xfff8) goto l4;
+    v11 = node + 400;
+    v12 = content_count + 14;
+    if (get64(v11) < v12) {
+        v10 = 3;
+        goto l4;
+    }
+    v2 = get32(node + 408) + get32(node + 488);
+    if (v2 == ~0U) {
+        v10 = 4;
+        goto l4;
+    }
+    rattle_alloc_at(v8 + 16, v12, 1);
+    if (((uint32_t)get64(v8 + 16) & 1) == 0) {
+        v10 = 8;
+        goto l4;
+    }
+    v13 = (content == 0) ? 0x1000ULL : 0ULL;
+    v14 = content + v13;
+    v15 = v2 + 1;
+    v16 = get64(v8 + 24);
+    v17 = content_count + 13;
+    if (v17 != 0) fill(v16, 0, v17);
+    put8(v16 + v17, 0);
+    put32(v16 + 6, rotl32(v15 & 0xff00ff, 24) | (rotl32(v15, 8) & 0xff00ff));
+    put16(v16 + 2, (sequence << 8) | (((sequence | 0xc000) & 0xff00) >> 8));
+    put16(v16, (apid << 8) | (((apid | 0x1000) & 0xff00) >> 8));
+    v3 = (uint32_t)content_count + 7;
+    put16(v16 + 4, (v3 << 8) | ((v3 & 0xff00) >> 8));
+    v4 = v16 + 10;
+    if ((v4 - v14) < content_count) {
+        v18 = content_count & 3;
+        v19 = 0;
+        if (content_count >= 4) {
+            v20 = content_count & 0xfffc;
+            do {
+                v5 = v16 + v19;
+                v21 = v14 + v19;
+                put8(v5 + 10, get8(v21));
+                put8(v5 + 11, get8(v21 + 1));
+                put8(v5 + 12, get8(v21 + 2));
+                put8(v5 + 13, get8(v21 + 3));
+                v19 = v19 + 4;
+            } while (v20 != v19);
+            if (v18 == 0) goto l9;
+        }
+        v6 = v19 + v16 + 10;
+        v7 = content + (v13 + v19);
+        do {
+            put8(v6, get8(v7));
+            v6 = v6 + 1;
+            v7 = v7 + 1;
+            v18 = v18 - 1;
+        } while (v18 != 0);
+    } else if (content_count != 0) copy(v4, v14, content_count);
+l9:;
+    answer = SEDGE_NODE_OK;
+    v22 = content_count + 10;
+    v23 = command_log_crc_check_after(0, v16, v22);
+    put32(v16 + v22, rotl32(v23 & 0xff00ff, 24) | (rotl32(v23, 8) & 0xff00ff));
+    put32(v8 + 49, 0);
+    put8(v8 + 48, map);
+    put64(v8 + 40, tag);
+    put64(v8 + 32, 0);
+    put32(v8 + 52, 0);
+    put64(v8 + 72, 0);
+    put64(v8 + 64, v12);
+    put64(v8 + 56, v16);
+    put64(v8 + 80, 0);
+    put64(v8 + 88, 0);
+    put64(v8 + 96, 0);
+    put64(v8 + 104, 0);
+    command_ledger_ledger_Ledger_append(v8 + 8, v11, v8 + 32);
+    v10 = get8(v8 + 9);
+    v24 = get8(v8 + 8);
+    rattle_dealloc_at(v16);
+    if (v24 == 0) {
+        put_own32(number, v15);
+        put64(commander /* node */, node);
+        return answer;
+    }
+l4:;
+    answer = v10 + 1;
+    put64(commander /* node */, node);
+    return answer;
+}
+
+/* sedge_commander_fresh, crates/sedgechisel_nodes/src/commanding/readings.rt:87 */
+static uint32_t sedge_commander_fresh_at(uint64_t commander, uint64_t out, uint64_t room, uint64_t count)
+{
+    unsigned char frame_octets[256 + 15];
+    uint32_t answer, t1;
+    uint64_t v4, node, v7, v8, v9, v10, v11, v12, v13, v14, v15, v16, v17, v18, v19, v2, v3, v27, v20, v21, v28, v22,
+        v23, v24, v29, v25, v30, v26, v31, v32, v33, v34, v35, v36, v37, v38, v39, v40, v41;
+    v4 = aligned(frame_octets);
+    node = get64(commander /* node */);
+    put64(commander /* node */, 0);
+    if (node == 0) return SEDGE_NODE_NONE;
+    answer = SEDGE_LEDGER_OWING;
+    if (get64(node + 576) != 0 || get8(node + 592) != 0 || get64(node + 528) != 0) {
+        put64(commander /* node */, node);
+        return answer;
+    }
+    put64(v4 + 88, 0);
+    put64(v4 + 96, 0);
+    put64(v4 + 104, 0);
+    put64(v4 + 112, 0);
+    copy(v4 + 16, node + 408, 72);
+    put64(v4 + 8, 5);
+    command_ledger_entry_spelling(v4 + 88, v4 + 8);
+    if (get8(v4 + 88) != 0) goto l5;
+    put64(v4 + 136, get64(v4 + 112));
+    put64(v4 + 128, get64(v4 + 104));
+    put64(v4 + 120, get64(v4 + 96));
+    v7 = node + 488;
+    v8 = get64(v7);
+    if (v8 == 0) {
+        v9 = get64(v4 + 136);
+        v10 = get64(v4 + 128);
+        v11 = get64(v4 + 120);
+        goto l6;
+    }
+    v12 = v4 + 144 + 40;
+    v13 = v4 + 161;
+    v14 = node + 512;
+    v15 = node + 480;
+    v16 = node + 504;
+    v17 = 0;
+    do {
+        v18 = get64(v7);
+        if (v18 <= v17) UNREACHABLE;
+        v19 = get64(v15);
+        v2 = v18 - get64(v14);
+        if (v17 >= v2) {
+            v3 = v17 - v2;
+        } else {
+            v19 = v19 + (get64(v16) * 40);
+            v3 = v17;
+        }
+        put32(v13, 0);
+        put32(v13 + 3, 0);
+        put64(v12, 0);
+        put64(v12 + 8, 0);
+        put64(v12 + 16, 0);
+        put64(v12 + 24, 0);
+        put64(v12 + 32, 0);
+        put64(v4 + 224, 0);
+        put64(v4 + 232, 0);
+        put64(v4 + 240, 0);
+        put64(v4 + 248, 0);
+        put64(v4 + 144, 0);
+        v27 = v19 + (v3 * 40);
+        put64(v4 + 152, get64(v27));
+        put8(v4 + 160, get8(v27 + 32));
+        put64(v4 + 176, get64(v27 + 16));
+        put64(v4 + 168, get64(v27 + 8));
+        command_ledger_entry_spelling(v4 + 224, v4 + 144);
+        v9 = get64(v4 + 136);
+        if (get8(v4 + 224) != 0) {
+            if (v9 != 0) goto l13;
+            goto l5;
+        }
+        v20 = get64(v4 + 248);
+        v21 = get64(v4 + 232);
+        v28 = get64(v4 + 240);
+        v22 = get64(v4 + 128);
+        if (v28 > (v9 - v22)) {
+            t1 = std_alloc_vec_Vec_grow_amortized_8131ac0ff0013ce2(v4 + 120, v28);
+            if (t1 == 0) {
+                if (v20 != 0) rattle_dealloc_at(v21);
+                if (get64(v4 + 136) == 0) goto l5;
+                goto l13;
+            }
+            v9 = get64(v4 + 136);
+            v22 = get64(v4 + 128);
+        }
+        v10 = v22 + v28;
+        v11 = get64(v4 + 120);
+        v23 = v11 + v22;
+        if ((v23 - v21) >= v28) {
+            if (v28 == 0) goto l12;
+            copy(v23, v21, v28);
+            goto l12;
+        }
+        v24 = v28 & 3;
+        v29 = 0;
+        if (v28 >= 4) {
+            v25 = v28 & ~3ULL;
+            do {
+                v30 = v23 + v29;
+                v26 = v21 + v29;
+                put8(v30, get8(v26));
+                put8(v30 + 1, get8(v26 + 1));
+                put8(v30 + 2, get8(v26 + 2));
+                put8(v30 + 3, get8(v26 + 3));
+                v29 = v29 + 4;
+            } while (v25 != v29);
+            if (v24 == 0) goto l12;
+        }
+        v31 = v21 + v29;
+        v32 = v11 + (v22 + v29);
+        do {
+            put8(v32, get8(v31));
+            v32 = v32 + 1;
+            v31 = v31 + 1;
+            v24 = v24 - 1;
+        } while (v24 != 0);
+        goto l12;
+    l13:;
+        rattle_dealloc_at(get64(v4 + 120));
+        goto l5;
+    l12:;
+        put64(v4 + 136, v9);
+        put64(v4 + 128, v10);
+        if (v20 != 0) rattle_dealloc_at(v21);
+        v17 = v17 + 1;
+    } while (v17 != v8);
+l6:;
+    answer = SEDGE_LEDGER_ROOM;
+    if (room < v10) goto l4;
+    v33 = (out == 0) ? 0x1000ULL : 0ULL;
+    v34 = out + v33;
+    if ((v34 - v11) >= v10) {
+        if (v10 == 0) goto l23;
+        copy(v34, v11, v10);
+        goto l23;
+    }
+    v35 = v10 & 3;
+    v36 = 0;
+    if (v10 >= 4) {
+        v37 = v10 & ~3ULL;
+        do {
+            v38 = v34 + v36;
+            v39 = v11 + v36;
+            put8(v38, get8(v39));
+            put8(v38 + 1, get8(v39 + 1));
+            put8(v38 + 2, get8(v39 + 2));
+            put8(v38 + 3, get8(v39 + 3));
+            v36 = v36 + 4;
+        } while (v37 != v36);
+        if (v35 == 0) goto l23;
+    }
+    v40 = v11 + v36;
+    v41 = out + (v33 + v36);
+    do {
+        put8(v41, get8(v40));
+        v41 = v41 + 1;
+        v40 = v40 + 1;
+        v35 = v35 - 1;
+    } while (v35 != 0);
+l23:;
+    put64(count, v10);
+    answer = SEDGE_NODE_OK;
+    goto l4;
+l5:;
+    answer = SEDGE_LEDGER_MEMORY;
+    put64(commander /* node */, node);
+    return answer;
+l4:;
+    if (v9 != 0) rattle_dealloc_at(v11);
+    put64(commander /* node */, node);
+    return answer;
+}
+
+/* sedge_commander_go_on, crates/sedgechisel_nodes/src/commanding/commands.rt:125 */
+static uint32_t sedge_commander_go_on_at(uint64_t commander)
+{
+    uint64_t node;
+    node = get64(commander /* node */);
+    put64(commander /* node */, 0);
+    if (node == 0) return SEDGE_NODE_NONE;
+    put8(node + 658, 0);
+    put64(commander /* node */, node);
+    return SEDGE_NODE_OK;
+}
+
+/* sedge_commander_next, crates/sedgechisel_nodes/src/commanding/actions.rt:138 */
+static uint32_t sedge_commander_next_at(uint64_t commander, uint64_t action, uint64_t out, uint64_t room)
+{
+    unsigned char frame_octets[160 + 15];
+    uint32_t answer, v8, new_number, new_kind, new_last, new_alert, v9, v6, v14, v10, v16, v11, v17, v18, v19, v20,
+        v22, v23, v24, v25, v26, v28, v34, v35, v36, v13;
+    uint64_t v4, node, new_count, v7, v2, new_tag, v3, v15, v21, v27, v29, v12, v30, v31, v32, v33;
+    v4 = aligned(frame_octets);
+    node = get64(commander /* node */);
+    put64(commander /* node */, 0);
+    if (node == 0) return SEDGE_NODE_NONE;
+    if (get8(node + 592) != 0) {
+        if (room > 0x3ff) {
+            new_count = get64(node + 576);
+            goto l7;
+        }
+        answer = SEDGE_LEDGER_ROOM;
+        put64(commander /* node */, node);
+        return answer;
+    }
+    v7 = get64(node + 528);
+    if (v7 != 0) {
+        if (room <= 0x3ff) {
+            answer = SEDGE_LEDGER_ROOM;
+            put64(commander /* node */, node);
+            return answer;
+        }
+        v2 = get64(node + 520);
+        if (v7 != get64(node + 552)) v2 = v2 + (get64(node + 544) << 4);
+        new_tag = get64(v2 + 8);
+        v8 = get32(v2 + 4);
+        new_number = get8(v2);
+        put16(v4 + 20, 0);
+        put32(v4 + 16, 0);
+        new_kind = SEDGE_COMMANDER_EXECUTED;
+        new_count = 0;
+        new_last = new_number;
+        new_alert = new_number;
+        switch (new_number) {
+        case 1:
+            new_number = 0;
+            new_kind = SEDGE_COMMANDER_UNKNOWN;
+            goto l6;
+        case 2:
+            new_last = 0;
+            new_kind = SEDGE_COMMANDER_RESTARTED;
+            goto l9;
+        case 3:
+            new_last = 0;
+            new_kind = SEDGE_COMMANDER_RECORD_LOST;
+            goto l9;
+        case 4:
+            new_last = (uint32_t)new_tag;
+            new_kind = SEDGE_COMMANDER_FOREIGN;
+            goto l9;
+        default:
+            goto l4;
+        }
+    }
+    if (room <= 0x3ff) {
+        answer = SEDGE_LEDGER_ROOM;
+        put64(commander /* node */, node);
+        return answer;
+    }
+    new_count = get64(node + 576);
+    if (new_count != 0) goto l7;
+    v3 = node + 659;
+    if (get8(v3) == 1) {
+        v9 = get8(node + 660);
+        new_number = 0;
+        put16(v3, 0);
+        put16(v4 + 20, 0);
+        put32(v4 + 16, 0);
+        new_alert = v9 + 1;
+        new_kind = SEDGE_COMMANDER_ALERT;
+        new_tag = 0;
+        new_last = 0;
+        new_count = 0;
+        goto l4;
+    }
+    new_tag = 0;
+    if (get64(node + 344) != 0 || get64(node + 384) != 0) {
+        new_number = 0;
+        put16(v4 + 20, 0);
+        put32(v4 + 16, 0);
+        new_kind = SEDGE_COMMANDER_TELEMETRY;
+        new_last = 0;
+        new_count = 0;
+        goto l5;
+    }
+    if (get32(node + 664) != 0) goto l22;
+    v6 = get16(node + 614);
+    if (v6 <= 0x7ff) {
+        if ((get8(node + 460) & 1) != 0 && get8(node + 464) == 1 && (get8(node + 452) & 255) == 1) {
+            v14 = get32(node + 468);
+            if (v14 == get32(node + 456)) {
+                v15 = node + 472;
+                v10 = get32(node + 476);
+                v16 = 2;
+                goto l23;
+            }
+        }
+        if (get8(node + 661) != 1) goto l22;
+        v15 = node + 416;
+        v16 = 1;
+        v14 = 0;
+        v10 = 0;
+    l23:;
+        v11 = get32(v15);
+        put8(v4 + 26, v11);
+        put8(v4 + 25, v11 >> 8);
+        put8(v4 + 24, v11 >> 16);
+        put8(v4 + 23, v11 >> 24);
+        put8(v4 + 22, v16);
+        put32(v4 + 18, 0x100000c0);
+        put32(v4 + 35, 0);
+        put16(v4 + 16, (v6 << 8) | ((v6 | 0x1000) >> 8));
+        put8(v4 + 34, v14);
+        put8(v4 + 33, v14 >> 8);
+        put8(v4 + 32, v14 >> 16);
+        put8(v4 + 31, v14 >> 24);
+        put8(v4 + 30, v10);
+        put8(v4 + 29, v10 >> 8);
+        put8(v4 + 28, v10 >> 16);
+        put8(v4 + 27, v10 >> 24);
+        v17 = command_log_crc_check_after(0, v4 + 16, 19);
+        put32(v4 + 35, rotl32(v17 & 0xff00ff, 24) | (rotl32(v17, 8) & 0xff00ff));
+        nodes_ground_node_Ground_bypass(v4 + 8, node, get8(node + 612), v4 + 16, 23);
+        if (get8(v4 + 8) == 0) {
+            v18 = get32(node + 608) + 1;
+            put32(node + 664, (v18 != 0) ? v18 : ~0U);
+            goto l8;
+        }
+        if ((get8(v4 + 9) & 255) != 5) goto l8;
+        answer = SEDGE_LEDGER_MEMORY;
+        put64(commander /* node */, node);
+        return answer;
+    }
+l22:;
+    v19 = get8(node + 658);
+    if (get8(node + 73) == 5) {
+        if ((v19 & 1) != 0) goto l8;
+        v20 = get32(node + 408);
+        if (v20 == ~0U || (get8(node + 460) & 1) != 0 || get32(node + 596) <= v20 || get64(node + 488) == 0) goto l8;
+        v21 = node + 656;
+        if (get8(v21) != 1) goto l8;
+        v22 = get8(node + 657);
+        put32(v4 + 16, 5);
+        put8(v4 + 17, v22);
+        nodes_ground_node_Ground_directive(v4 + 144, node, v4 + 16);
+        put8(v4 + 16, 2);
+        nodes_ground_node_Ground_directive(v4 + 144, node, v4 + 16);
+        put16(v21, 0);
+        put32(node + 648, get32(node + 408));
+        goto l8;
+    }
+    if ((v19 & 1) != 0) goto l8;
+    v23 = get32(node + 408);
+    v24 = get32(node + 648);
+    v25 = (v23 > v24) ? v23 : v24;
+    if (v25 == ~0U) goto l8;
+    v26 = v25 - v23;
+    if ((((v26 > v25) ? 0U : v26) > 63) || (get8(node + 460) & 1) != 0 || get32(node + 596) <= v25) goto l8;
+    v27 = get64(node + 488);
+    v28 = v25 + 1;
+    v29 = (uint64_t)(v28 - v23) - 1;
+    if (v27 <= v29) goto l8;
+    v12 = get64(node + 480);
+    v30 = v27 - get64(node + 512);
+    if (v29 < v30) {
+        v12 = v12 + (get64(node + 504) * 40);
+    } else {
+        v29 = v29 - v30;
+    }
+    v31 = v12 + (v29 * 40);
+    v32 = get64(v31 + 16);
+    v33 = get64(v31 + 8);
+    v34 = get8(v31 + 32);
+    fill(v4 + 16, 0, 128);
+    nodes_ground_node_Ground_prepare(v4 + 16, node, v34, v33, v32);
+    if (get8(v4 + 16) == 0) {
+        nodes_ground_node_Ground_commit(node, v4 + 16 + 8);
+        put32(node + 648, v28);
+        goto l8;
+    }
+    if (get8(v4 + 17) != 5) goto l8;
+    answer = SEDGE_LEDGER_MEMORY;
+    put64(commander /* node */, node);
+    return answer;
+l9:;
+    new_tag = 0;
+    new_number = v8;
+    goto l5;
+l8:;
+    nodes_ground_node_Ground_peek(v4 + 16, node);
+    if (get8(v4 + 16) != 1) {
+        nodes_ground_node_Ground_advance(node);
+        new_number = 0;
+        put16(v4 + 20, 0);
+        put32(v4 + 16, 0);
+        new_tag = 0;
+        new_last = 0;
+        new_count = 0;
+        new_kind = SEDGE_COMMANDER_NOTHING;
+        goto l5;
+    }
+    new_tag = 0;
+    put64(v4 + 152, 0);
+    put64(v4 + 144, 0);
+    tc_frame_encoding_encode(v4 + 144, v4 + 24, some(out), 0x400);
+    if (get8(v4 + 144) != 0) UNREACHABLE;
+    new_count = get64(v4 + 152);
+    nodes_ground_node_Ground_advance(node);
+    new_number = 0;
+    put16(node + 662, 0);
+    put16(node + 656, 0);
+    v35 = get32(node + 608) + 1;
+    put32(node + 652, (v35 != 0) ? v35 : ~0U);
+    put16(v4 + 20, 0);
+    put32(v4 + 16, 0);
+    new_kind = SEDGE_COMMANDER_SEND;
+    goto l6;
+l7:;
+    new_number = 0;
+    put16(v4 + 20, 0);
+    put32(v4 + 16, 0);
+    new_kind = SEDGE_COMMANDER_STORE;
+    new_tag = 0;
+l6:;
+    new_last = 0;
+l5:;
+    new_alert = SEDGE_NO_ALERT;
+l4:;
+    v36 = get16(v4 + 20);
+    put16(v4 + 148, v36);
+    v13 = get32(v4 + 16);
+    put32(v4 + 144, v13);
+    put8(action + 25 /* alert */, new_alert);
+    put8(action + 24 /* kind */, new_kind);
+    put64(action + 16 /* count */, new_count);
+    put32(action + 12 /* last */, new_last);
+    put32(action + 8 /* number */, new_number);
+    put64(action /* tag */, new_tag);
+    put32(action + 26, v13);
+    put16(action + 30, v36);
+    answer = SEDGE_NODE_OK;
+    put64(commander /* node */, node);
+    return answer;
+}
+
+/* sedge_commander_next_telemetry, crates/sedgechisel_nodes/src/commanding/hearing.rt:127 */
+static uint32_t sedge_commander_next_telemetry_at(uint64_t commander, uint64_t count)
+{
+    uint64_t node, v3, v4, v5, v6;
+    node = get64(commander /* node */);
+    put64(commander /* node */, 0);
+    if (node == 0) return SEDGE_NODE_NONE;
+    v3 = get64(node + 344);
+    if (v3 != 0) {
+        v4 = get64(node + 336);
+        if (v3 != get64(node + 368)) v4 = v4 + (get64(node + 360) * 24);
+    } else {
+        if (get64(node + 384) == 0) {
+            v5 = 0;
+            put64(count, v5);
+            put64(commander /* node */, node);
+            return SEDGE_NODE_OK;
+        }
+        v4 = get64(node + 376);
+    }
+    v6 = get64(v4 + 8);
+    put64(count, v6);
+    put64(commander /* node */, node);
+    return SEDGE_NODE_OK;
+}
+
+/* sedge_commander_pause, crates/sedgechisel_nodes/src/commanding/commands.rt:114 */
+static uint32_t sedge_commander_pause_at(uint64_t commander)
+{
+    uint64_t node;
+    node = get64(commander /* node */);
+    put64(commander /* node */, 0);
+    if (node == 0) return SEDGE_NODE_NONE;
+    put8(node + 658, 1);
+    put64(commander /* node */, node);
+    return SEDGE_NODE_OK;
+}
+
+/* sedge_commander_read, crates/sedgechisel_nodes/src/commanding/readings.rt:42 */
+static uint32_t sedge_commander_read_at(uint64_t commander, uint64_t read)
+{
+    uint32_t new_below, new_worth;
+    uint64_t node, v3, v6, v7;
+    node = get64(commander /* node */);
+    put64(commander /* node */, 0);
+    if (node == 0) return SEDGE_NODE_NONE;
+    v3 = get64(node + 488);
+    new_below = get32(node + 408);
+    new_worth = 0;
+    if (get64(node + 576) == 0 && get8(node + 592) == 0 && get64(node + 528) == 0) {
+        v6 = get64(node + 600) >> 1;
+        v7 = v6 - 57;
+        new_worth = get64(node + 560) < ((v7 > v6) ? 0ULL : v7);
+    }
+    put16(read + 9, 0);
+    put8(read + 8 /* worth */, new_worth);
+    put32(read /* below */, new_below);
+    put8(read + 11, 0);
+    put32(read + 4 /* highest */, new_below + (uint32_t)v3);
+    put64(commander /* node */, node);
+    return SEDGE_NODE_OK;
+}
+
+/* sedge_commander_read_ground, crates/sedgechisel_nodes/src/commanding/readings.rt:55 */
+static uint32_t sedge_commander_read_ground_at(uint64_t commander, uint64_t read)
+{
+    uint32_t new_nn, new_vs, v15, v16, v17, v18, new_count;
+    uint64_t node, v3, new_acknowledged_whole, v7, v20, v8, v9, v10, v11, v12, v13, v14, v21, v22, v23, v24, new_due,
+        new_bypassed, new_frame_length, new_unsent;
+    node = get64(commander /* node */);
+    v3 = 0;
+    put64(commander /* node */, 0);
+    if (node == 0) return SEDGE_NODE_NONE;
+    new_nn = get8(node + 75);
+    new_vs = get8(node + 74);
+    new_acknowledged_whole = get64(node + 248);
+    v7 = get64(node + 264);
+    if (v7 != 0) {
+        v20 = get64(node + 288);
+        v8 = v20 - v7;
+        v9 = v7 - v20;
+        v10 = (uint64_t)(new_vs - new_nn) & 255;
+        v11 = get64(node + 256);
+        v3 = 0;
+        v12 = node + 280;
+        do {
+            if (v3 < v9) {
+                v13 = v11 + (get64(v12) << 3);
+                v14 = v3;
+            } else {
+                v14 = v8 + v3;
+                v13 = v11;
+            }
+            v21 = get64(v13 + (v14 << 3));
+            v22 = (v21 > 1) ? v21 : 1ULL;
+            if (v10 < v22) goto l2;
+            v10 = v10 - v22;
+            v3 = v3 + 1;
+        } while (v7 != v3);
+        v3 = v7;
+    }
+l2:;
+    v23 = get64(node + 152);
+    v24 = get64(node + 216);
+    v15 = get8(node + 96);
+    v16 = get16(node + 86);
+    v17 = get8(node + 84);
+    v18 = get8(node + 73);
+    new_due = (uint64_t)get8(node + 78);
+    new_bypassed = get64(node + 176);
+    new_frame_length = (uint64_t)get32(node + 60);
+    new_count = get8(node + 88);
+    put16(read + 70, 0);
+    put8(read + 69 /* count */, new_count);
+    put8(read + 68 /* nn */, new_nn);
+    put8(read + 67 /* vs */, new_vs);
+    put64(read + 56 /* frame_length */, new_frame_length);
+    put64(read + 48 /* bypassed */, new_bypassed);
+    put64(read + 40 /* due */, new_due);
+    put64(read + 16 /* acknowledged_whole */, new_acknowledged_whole);
+    put64(read + 8 /* sent_whole */, v3 + new_acknowledged_whole);
+    put64(read /* submitted */, v7 + new_acknowledged_whole);
+    put8(read + 66 /* state */, v18 + 1);
+    put16(read + 64 /* ticks */, (v17 == 1) ? v16 : 0U);
+    new_unsent = v24 + (uint64_t)(uint32_t)(v15 == 1);
+    put64(read + 32 /* unsent */, new_unsent);
+    put64(read + 24 /* outstanding */, new_unsent + v23);
+    put64(commander /* node */, node);
+    return SEDGE_NODE_OK;
+}
+
+/* sedge_commander_rebuild, crates/sedgechisel_nodes/src/commanding/commands.rt:90 */
+static uint32_t sedge_commander_rebuild_at(uint64_t commander)
+{
+    unsigned char frame_octets[96 + 15];
+    uint32_t v3, v4, v5, v6, v7, v8, v9, v10, answer;
+    uint64_t v1, node;
+    v1 = aligned(frame_octets);
+    node = get64(commander /* node */);
+    put64(commander /* node */, 0);
+    if (node == 0) return SEDGE_NODE_NONE;
+    v3 = 5;
+    if (get8(node + 452) == 1 && (get8(node + 460) & 1) != 0) {
+        v4 = get32(node + 456);
+        v5 = get8(node + 424);
+        v6 = get32(node + 420);
+        if ((get8(node + 464) & 255) != 1) {
+            v7 = get32(node + 416);
+        } else {
+            if (get32(node + 468) == v4) goto l4;
+            v7 = get32(node + 472);
+        }
+        v3 = 6;
+        if (v7 < 0xffff0000U) {
+            put64(v1 + 32, 0);
+            put32(v1 + 20, v4);
+            put32(v1 + 16, 3);
+            put64(v1 + 40, 0);
+            put64(v1 + 48, 0);
+            put64(v1 + 56, 0);
+            put64(v1 + 64, 0);
+            put64(v1 + 72, 0);
+            put64(v1 + 80, 0);
+            put64(v1 + 88, 0);
+            put32(v1 + 24, v7 + 0x10000);
+            v8 = v6 + 1;
+            v9 = ((v5 & 1) != 0) ? ((v8 != 0) ? v8 : ~0U) : v6;
+            v10 = get32(node + 596);
+            put32(v1 + 28, (v9 > v10) ? v9 : v10);
+            command_ledger_ledger_Ledger_append(v1 + 8, node + 400, v1 + 16);
+            if (get8(v1 + 8) == 0) goto l4;
+            v3 = get8(v1 + 9);
+        }
+    }
+    answer = v3 + 1;
+    put64(commander /* node */, node);
+    return answer;
+l4:;
+    answer = SEDGE_NODE_OK;
+    put64(commander /* node */, node);
+    return answer;
+}
+
+/* sedge_commander_renewed, crates/sedgechisel_nodes/src/commanding/actions.rt:198 */
+static uint32_t sedge_commander_renewed_at(uint64_t commander, uint64_t count)
+{
+    uint64_t node;
+    node = get64(commander /* node */);
+    put64(commander /* node */, 0);
+    if (node == 0) return SEDGE_NODE_NONE;
+    put64(node + 600, count);
+    put64(commander /* node */, node);
+    return SEDGE_NODE_OK;
+}
+
+/* sedge_commander_restart_board, crates/sedgechisel_nodes/src/commanding/commands.rt:99 */
+static uint32_t sedge_commander_restart_board_at(uint64_t commander)
+{
+    uint64_t node;
+    node = get64(commander /* node */);
+    put64(commander /* node */, 0);
+    if (node == 0) return SEDGE_NODE_NONE;
+    put8(node + 661, 1);
+    put64(commander /* node */, node);
+    return SEDGE_NODE_OK;
+}
+
+/* sedge_commander_status, crates/sedgechisel_nodes/src/commanding/hearing.rt:101 */
+static uint32_t sedge_commander_status_at(uint64_t commander, uint64_t octets, uint64_t count)
+{
+    unsigned char frame_octets[16 + 15];
+    uint32_t v5, v6, answer;
+    uint64_t v3, node;
+    v3 = aligned(frame_octets);
+    node = get64(commander /* node */);
+    put64(commander /* node */, 0);
+    if (node == 0) return SEDGE_NODE_NONE;
+    commander_commander_Commander_status(v3 + 8, node, some(octets), count);
+    v5 = get8(v3 + 8);
+    v6 = get8(v3 + 9);
+    put64(commander /* node */, node);
+    answer = (v5 != 0) ? (v6 + 1) : SEDGE_NODE_OK;
+    return answer;
+}
+
+/* sedge_commander_stored, crates/sedgechisel_nodes/src/commanding/actions.rt:177 */
+static uint32_t sedge_commander_stored_at(uint64_t commander, uint64_t count)
+{
+    uint32_t v5;
+    uint64_t node, v3, v4, v6, t1, v7;
+    node = get64(commander /* node */);
+    put64(commander /* node */, 0);
+    if (node == 0) return SEDGE_NODE_NONE;
+    if (get8(node + 592) == 1) {
+        v3 = get64(node + 576);
+        v4 = v3;
+    } else {
+        v3 = get64(node + 576);
+        v4 = (get64(node + 528) == 0) ? v3 : 0ULL;
+    }
+    v5 = v4 == count;
+    if (count == v3) {
+        if (count != 0) put64(node + 576, 0);
+        put8(node + 592, 0);
+        put32(node + 596, get32(node + 408) + get32(node + 488));
+        v6 = node + 600;
+        t1 = v6;
+        v7 = count + get64(v6);
+        put64(t1, (v7 < count) ? ~0ULL : v7);
+    }
+    put64(commander /* node */, node);
+    return (v5 != 0) ? SEDGE_NODE_OK : ~2U;
+}
+
+/* sedge_commander_telemetry, crates/sedgechisel_nodes/src/commanding/hearing.rt:42 */
+static uint32_t sedge_commander_telemetry_at(uint64_t commander, uint64_t octets, uint64_t count, uint64_t heard)
+{
+    unsigned char frame_octets[80 + 15];
+    uint32_t answer, v6, v8, new_kind, new_first, new_fault, new_missing, new_report, new_word_fault, new_alert, v9,
+        v10, v11, v12, v14, v3, v16;
+    uint64_t v4, node, v7, v2, new_packets;
+    v4 = aligned(frame_octets);
+    node = get64(commander /* node */);
+    put64(commander /* node */, 0);
+    if (node == 0) return SEDGE_NODE_NONE;
+    put64(v4 + 24, 0);
+    put64(v4 + 16, 0);
+    put64(v4 + 8, 0);
+    put64(v4, 0);
+    v7 = (uint64_t)get32(node + 60);
+    v2 = some(octets);
+    nodes_ground_node_Ground_telemetry(v4, node, v2, count);
+    if (get8(v4) != 0) {
+        answer = SEDGE_LEDGER_MEMORY;
+    } else {
+        v6 = get8(v4 + 9);
+        v8 = get8(v4 + 8);
+        if (v8 != 2) {
+            new_kind = (v8 != 0) ? SEDGE_HEARD_FOREIGN : SEDGE_HEARD_INVALID;
+            new_first = 0;
+            new_fault = (v8 != 0) ? 0U : (v6 + 1);
+            new_packets = 0;
+            new_missing = 0;
+            new_report = SEDGE_REPORT_USED;
+            new_word_fault = 0;
+            new_alert = SEDGE_NO_ALERT;
+        } else {
+            v9 = get8(v4 + 27);
+            new_report = get8(v4 + 24);
+            v10 = get8(v4 + 26);
+            if ((v10 & 255) == 1) {
+                put16(node + 662, 0);
+                put16(node + 656, 0);
+                put8(node + 660, v9);
+                put8(node + 659, 1);
+                v11 = get32(node + 608) + 1;
+                put32(node + 652, (v11 != 0) ? v11 : ~0U);
+            }
+            v12 = get8(v4 + 25);
+            new_packets = get64(v4 + 16);
+            v14 = get8(v4 + 10);
+            put64(v4 + 72, 0);
+            put64(v4 + 64, 0);
+            put64(v4 + 56, 0);
+            put64(v4 + 48, 0);
+            put64(v4 + 40, 0);
+            put64(v4 + 32, 0);
+            tm_link_decoding_decode(v4 + 32, v2, count, v7);
+            if ((get8(v4 + 32) | (new_report & 255)) == 0) {
+                v3 = get32(v4 + 72);
+                if ((v3 & 0x103e3) == 1 && get8(node + 73) == 5 && get32(node + 652) == 0) {
+                    put8(node + 657, v3 >> 24);
+                    put8(node + 656, 1);
+                }
+            }
+            new_fault = 0;
+            new_alert = ((v10 & 255) != 0) ? (v9 + 1) : SEDGE_NO_ALERT;
+            new_word_fault = ((new_report & 255) == 1) ? (v12 + 1) : 0U;
+            v16 = v6 & 255;
+            new_missing = (v16 != 0) ? v14 : 0U;
+            new_first = v16 == 0;
+            new_kind = SEDGE_HEARD_FRAME;
+        }
+        answer = SEDGE_NODE_OK;
+        put8(heard + 15, 0);
+        put8(heard + 14 /* alert */, new_alert);
+        put8(heard + 13 /* word_fault */, new_word_fault);
+        put8(heard + 12 /* report */, new_report);
+        put8(heard + 11 /* missing */, new_missing);
+        put8(heard + 10 /* first */, new_first);
+        put8(heard + 9 /* fault */, new_fault);
+        put8(heard + 8 /* kind */, new_kind);
+        put64(heard /* packets */, new_packets);
+    }
+    put64(commander /* node */, node);
+    return answer;
+}
+
+/* sedge_commander_tick, crates/sedgechisel_nodes/src/commanding/hearing.rt:115 */
+static uint32_t sedge_commander_tick_at(uint64_t commander)
+{
+    unsigned char frame_octets[16 + 15];
+    uint32_t v4, v5, v7, v9, v10;
+    uint64_t v1, node, v6, v8;
+    v1 = aligned(frame_octets);
+    node = get64(commander /* node */);
+    put64(commander /* node */, 0);
+    if (node == 0) return SEDGE_NODE_NONE;
+    nodes_ground_node_Ground_tick(v1 + 8, node);
+    v4 = get8(v1 + 9);
+    v5 = get8(v1 + 8);
+    put16(node + 662, 0);
+    v6 = node + 652;
+    v7 = get32(v6);
+    put32(v6, v7 - (uint32_t)(v7 != 0));
+    v8 = node + 664;
+    v9 = get32(v8);
+    put32(v8, v9 - (uint32_t)(v9 != 0));
+    if (v5 == 1) {
+        put8(node + 660, v4);
+        put8(node + 659, 1);
+        put16(node + 656, 0);
+        v10 = get32(node + 608) + 1;
+        put32(v6, (v10 != 0) ? v10 : ~0U);
+    }
+    put64(commander /* node */, node);
+    return SEDGE_NODE_OK;
+}
+
+/* sedge_commander_unstored, crates/sedgechisel_nodes/src/commanding/actions.rt:154 */
+static uint32_t sedge_commander_unstored_at(uint64_t commander, uint64_t out, uint64_t room, uint64_t count)
+{
+    uint64_t node, v5, v6, v7, v8, v9, v11, v2, v12, v3, v13, v14, v15;
+    node = get64(commander /* node */);
+    put64(commander /* node */, 0);
+    if (node == 0) return SEDGE_NODE_NONE;
+    v5 = (out == 0) ? 0x1000ULL : 0ULL;
+    v6 = out + v5;
+    if (get8(node + 592) == 1) {
+        v7 = get64(node + 576);
+    } else {
+        v8 = 0;
+        v9 = address(constant_41);
+        if (get64(node + 528) != 0) goto l5;
+        v7 = get64(node + 576);
+        if (v7 == 0) goto l5;
+    }
+    if (room < v7) {
+        put64(commander /* node */, node);
+        return SEDGE_LEDGER_ROOM;
+    }
+    v9 = get64(node + 568);
+    if ((v6 - v9) < v7) {
+        v11 = v7 & 3;
+        v2 = 0;
+        if (v7 >= 4) {
+            v12 = v7 & ~3ULL;
+            do {
+                v3 = v6 + v2;
+                v13 = v9 + v2;
+                put8(v3, get8(v13));
+                put8(v3 + 1, get8(v13 + 1));
+                put8(v3 + 2, get8(v13 + 2));
+                put8(v3 + 3, get8(v13 + 3));
+                v2 = v2 + 4;
+            } while (v12 != v2);
+            if (v11 == 0) goto l8;
+        }
+        v14 = v9 + v2;
+        v15 = out + (v5 + v2);
+        do {
+            put8(v15, get8(v14));
+            v15 = v15 + 1;
+            v14 = v14 + 1;
+            v11 = v11 - 1;
+        } while (v11 != 0);
+    l8:;
+        v8 = v7;
+        put64(count, v8);
+        put64(commander /* node */, node);
+        return SEDGE_NODE_OK;
+    }
+    v8 = v7;
+l5:;
+    if (v8 != 0) copy(v6, v9, v8);
+    put64(count, v8);
+    put64(commander /* node */, node);
     return SEDGE_NODE_OK;
 }
 
@@ -13534,6 +16973,390 @@ l3:;
     return SEDGE_NODE_OK;
 }
 
+/* sedge_commander_take_telemetry, crates/sedgechisel_nodes/src/commanding/hearing.rt:183 */
+static uint32_t sedge_commander_take_telemetry_at(uint64_t commander, uint64_t out, uint64_t room, uint64_t count)
+{
+    unsigned char frame_octets[48 + 15];
+    uint32_t answer, v6, v10, v11;
+    uint64_t v4, node, v7, v8, v9, v2, v3, v18, v19, v20, v21, v12, v22, v23, v13, v24, v14, v25, v26, v27, v28, v15,
+        v29, v16, v30, v31, v17, v32, v33, v34, v35;
+    v4 = aligned(frame_octets);
+    node = get64(commander /* node */);
+    put64(commander /* node */, 0);
+    if (node == 0) return SEDGE_NODE_NONE;
+    v7 = get64(node + 344);
+    if (v7 != 0) {
+        v8 = get64(node + 336);
+        if (v7 != get64(node + 368)) {
+            v8 = v8 + (get64(node + 360) * 24);
+            v9 = get64(v8 + 8);
+            if (room < v9) {
+                answer = SEDGE_LEDGER_ROOM;
+                put64(commander /* node */, node);
+                return answer;
+            }
+            goto l5;
+        }
+        v9 = get64(v8 + 8);
+        if (room >= v9) goto l5;
+        answer = SEDGE_LEDGER_ROOM;
+        put64(commander /* node */, node);
+        return answer;
+    }
+    if (get64(node + 384) == 0) goto l4;
+    v8 = get64(node + 376);
+    v9 = get64(v8 + 8);
+    if (room < v9) {
+        answer = SEDGE_LEDGER_ROOM;
+        put64(commander /* node */, node);
+        return answer;
+    }
+l5:;
+    if (v9 < 6) goto l4;
+    v2 = get64(v8);
+    v6 = get8(v2);
+    if (v6 <= 31) {
+        v10 = get16(node + 616);
+        v11 = ((v6 << 8) & 0x700) | get8(v2 + 1);
+        if ((v6 & 8) == 0 || v11 != 0x7ff) {
+            v3 = ((uint64_t)get8(v2 + 4) << 8) | (uint64_t)get8(v2 + 5);
+            if (v9 >= (v3 + 7) && v11 == (v10 & 0xffff) && v3 == 26) {
+                put32(v4 + 31, get32(v2 + 29));
+                put64(v4 + 24, get64(v2 + 22));
+                put64(v4 + 16, get64(v2 + 14));
+                put64(v4 + 8, get64(v2 + 6));
+                commander_commander_Commander_status(v4, node, v4 + 8, 27);
+                if (get8(v4) == 1 && (get8(v4 + 1) & 255) == 8) {
+                    answer = SEDGE_LEDGER_MEMORY;
+                    put64(commander /* node */, node);
+                    return answer;
+                }
+                v7 = get64(node + 344);
+            }
+        }
+    }
+l4:;
+    if (v7 == 0) {
+        put64(node + 360, 0);
+        put64(node + 368, 0);
+        v18 = node + 384;
+        v7 = get64(v18);
+        put64(v18, 0);
+        v19 = node + 392;
+        v20 = get64(v19);
+        put64(v19, 0);
+        v21 = node + 336;
+        v12 = get64(v21);
+        v22 = node + 376;
+        put64(v21, get64(v22));
+        v23 = node + 352;
+        v13 = get64(v23);
+        put64(v23, v20);
+        v24 = node + 344;
+        put64(v24, v7);
+        put64(v22, v4 + 40);
+        if (v13 != 0) {
+            rattle_dealloc_at(v12);
+            v7 = get64(v24);
+        }
+        if (v7 == 0) {
+            put64(count, 0);
+            answer = SEDGE_NODE_OK;
+            put64(commander /* node */, node);
+            return answer;
+        }
+    }
+    v14 = (out == 0) ? 0x1000ULL : 0ULL;
+    v25 = out + v14;
+    v26 = node + 368;
+    if (get64(v26) != v7) {
+        v27 = get64(node + 360);
+    } else {
+        v27 = 0;
+        put64(v26, 0);
+    }
+    put64(node + 344, v7 - 1);
+    put64(node + 360, v27 + 1);
+    v28 = get64(node + 336) + (v27 * 24);
+    v15 = get64(v28 + 16);
+    v29 = get64(v28);
+    v16 = get64(v28 + 8);
+    if ((v25 - v29) < v16) {
+        v30 = v16 & 3;
+        v31 = 0;
+        if (v16 >= 4) {
+            v17 = v16 & ~3ULL;
+            do {
+                v32 = v25 + v31;
+                v33 = v29 + v31;
+                put8(v32, get8(v33));
+                put8(v32 + 1, get8(v33 + 1));
+                put8(v32 + 2, get8(v33 + 2));
+                put8(v32 + 3, get8(v33 + 3));
+                v31 = v31 + 4;
+            } while (v17 != v31);
+            if (v30 == 0) goto l15;
+        }
+        v34 = v29 + v31;
+        v35 = out + (v14 + v31);
+        do {
+            put8(v35, get8(v34));
+            v35 = v35 + 1;
+            v34 = v34 + 1;
+            v30 = v30 - 1;
+        } while (v30 != 0);
+    } else if (v16 != 0) copy(v25, v29, v16);
+l15:;
+    put64(count, v16);
+    answer = SEDGE_NODE_OK;
+    if (v15 != 0) rattle_dealloc_at(v29);
+    put64(commander /* node */, node);
+    return answer;
+}
+
+/* sedge_commander_told, crates/sedgechisel_nodes/src/commanding/actions.rt:244 */
+static uint32_t sedge_commander_told_at(uint64_t commander, uint64_t action)
+{
+    unsigned char frame_octets[96 + 15];
+    uint32_t answer, number_now, v7, number, number_2, number_3, v10, v11, v16, v4, v18, v19;
+    uint64_t v2, node, tag, tag_now, tag_2, v8, v9, v12, v13, v14, v15, v17, v20;
+    v2 = aligned(frame_octets);
+    node = get64(commander /* node */);
+    put64(commander /* node */, 0);
+    if (node == 0) return SEDGE_NODE_NONE;
+    answer = SEDGE_LEDGER_ABSENT;
+    switch (get8(action + 24 /* kind */)) {
+    case 2:
+        tag = get64(action /* tag */);
+        number_now = 0;
+        v7 = 0;
+        tag_now = tag;
+        break;
+    case 3:
+        tag_2 = get64(action /* tag */);
+        v7 = 1;
+        number_now = 0;
+        tag_now = tag_2;
+        break;
+    case 4:
+        number = get32(action + 8 /* number */);
+        v7 = 2;
+        tag_now = 0;
+        number_now = number;
+        break;
+    case 5:
+        number_2 = get32(action + 8 /* number */);
+        v7 = 3;
+        tag_now = 0;
+        number_now = number_2;
+        break;
+    case 6:
+        tag_now = (uint64_t)get32(action + 12 /* last */);
+        number_3 = get32(action + 8 /* number */);
+        v7 = 4;
+        number_now = number_3;
+        break;
+    default:
+        put64(commander /* node */, node);
+        return answer;
+    }
+    if (get8(node + 592) != 0) {
+        put64(commander /* node */, node);
+        return answer;
+    }
+    v8 = get64(node + 528);
+    if (v8 == 0) {
+        put64(commander /* node */, node);
+        return answer;
+    }
+    v9 = get64(node + 520);
+    v12 = v9;
+    v10 = v8 == get64(node + 552);
+    if (v10 == 0) v12 = v9 + (get64(node + 544) << 4);
+    if (get8(v12) != v7) {
+        put64(commander /* node */, node);
+        return answer;
+    }
+    v13 = get64(v12 + 8);
+    v11 = get32(v12 + 4);
+    switch (v7) {
+    case 1:
+        if (v13 != tag_now) {
+            put64(commander /* node */, node);
+            return answer;
+        }
+        break;
+    case 2:
+        if (v11 != number_now) {
+            put64(commander /* node */, node);
+            return answer;
+        }
+        break;
+    case 3:
+        if (v11 != number_now) {
+            put64(commander /* node */, node);
+            return answer;
+        }
+        break;
+    case 4:
+        if (v11 != number_now || (uint32_t)v13 != (uint32_t)tag_now) {
+            put64(commander /* node */, node);
+            return answer;
+        }
+        break;
+    default:
+        if (v13 != tag_now) {
+            put64(commander /* node */, node);
+            return answer;
+        }
+        break;
+    }
+    v14 = v9;
+    if (v10 == 0) v14 = v9 + (get64(node + 544) << 4);
+    answer = SEDGE_NODE_OK;
+    if (get8(v14) != v7) {
+        put64(commander /* node */, node);
+        return answer;
+    }
+    v15 = get64(v14 + 8);
+    v16 = get32(v14 + 4);
+    switch (v7) {
+    case 1:
+        if (v15 != tag_now) {
+            put64(commander /* node */, node);
+            return answer;
+        }
+        break;
+    case 2:
+        if (v16 != number_now) {
+            put64(commander /* node */, node);
+            return answer;
+        }
+        break;
+    case 3:
+        if (v16 != number_now) {
+            put64(commander /* node */, node);
+            return answer;
+        }
+        break;
+    case 4:
+        if (v16 != number_now || (uint32_t)v15 != (uint32_t)tag_now) {
+            put64(commander /* node */, node);
+            return answer;
+        }
+        break;
+    default:
+        if (v15 != tag_now) {
+            put64(commander /* node */, node);
+            return answer;
+        }
+        break;
+    }
+    put32(v2 + 8, 4);
+    fill((v2 + 8) | 4, 0, 76);
+    if (v10 == 0) v9 = v9 + (get64(node + 544) << 4);
+    if (get8(v9) == v7) {
+        v17 = get64(v9 + 8);
+        v4 = get32(v9 + 4);
+        switch (v7) {
+        case 1:
+            if (v17 != tag_now) goto l25;
+            break;
+        case 2:
+            if (v4 != number_now) goto l25;
+            break;
+        case 3:
+            if (v4 != number_now) goto l25;
+            break;
+        case 4:
+            if (v4 != number_now || (uint32_t)v17 != (uint32_t)tag_now) goto l25;
+            break;
+        default:
+            if (v17 != tag_now) goto l25;
+            break;
+        }
+        command_ledger_ledger_Ledger_append(v2, node + 400, v2 + 8);
+        if (get8(v2) != 0) {
+            answer = SEDGE_LEDGER_MEMORY;
+            put64(commander /* node */, node);
+            return answer;
+        }
+    }
+l25:;
+    if ((v7 & 6) != 2) {
+        answer = SEDGE_NODE_OK;
+    } else {
+        put32(v2 + 8, 4);
+        nodes_ground_node_Ground_directive(v2 + 93, node, v2 + 8);
+        answer = SEDGE_NODE_OK;
+        put16(node + 662, 0);
+        put16(node + 656, 0);
+        v18 = get32(node + 608) + 1;
+        put32(node + 652, (v18 != 0) ? v18 : ~0U);
+        v19 = 1;
+        v20 = node + 658;
+        if (get8(v20) == 0) v19 = get8(node + 618);
+        put8(node + 661, 0);
+        put8(v20, v19 & 1);
+    }
+    put64(commander /* node */, node);
+    return answer;
+}
+
+/* sedge_commander_progress, crates/sedgechisel_nodes/src/commanding/commands.rt:150 */
+static uint32_t sedge_commander_progress_at(uint64_t commander, uint32_t number, uint64_t progress)
+{
+    uint32_t v5, v2, v6;
+    uint64_t node, v7, v8, v9, v10, v11, v12, v13, v17, v14, v15, v16, v18, v19;
+    node = get64(commander /* node */);
+    put64(commander /* node */, 0);
+    if (node == 0) return SEDGE_NODE_NONE;
+    v5 = get32(node + 408);
+    if (number <= v5 || (v5 + get32(node + 488)) < number) {
+        put64(commander /* node */, node);
+        return SEDGE_LEDGER_ABSENT;
+    }
+    v2 = 0;
+    v6 = get32(node + 648);
+    if (v6 < number) {
+        put8(progress, v2);
+        put64(commander /* node */, node);
+        return SEDGE_NODE_OK;
+    }
+    v2 = 2;
+    v7 = get64(node + 264);
+    v8 = (uint64_t)(v6 - number);
+    if (v7 > v8) {
+        v9 = (uint64_t)(get8(node + 74) - get8(node + 75)) & 255;
+        v10 = get64(node + 288);
+        v11 = v10 - v7;
+        v12 = v7 - v10;
+        v13 = get64(node + 256);
+        v17 = 0;
+        v14 = node + 280;
+        do {
+            if (v17 < v12) {
+                v15 = v13 + (get64(v14) << 3);
+                v16 = v17;
+            } else {
+                v16 = v11 + v17;
+                v15 = v13;
+            }
+            v18 = get64(v15 + (v16 << 3));
+            v19 = (v18 > 1) ? v18 : 1ULL;
+            if (v9 < v19) goto l4;
+            v9 = v9 - v19;
+            v17 = v17 + 1;
+        } while (v7 != v17);
+        v17 = v7;
+    l4:;
+        v2 = (v7 - v17) <= v8;
+    }
+    put8(progress, v2);
+    put64(commander /* node */, node);
+    return SEDGE_NODE_OK;
+}
+
 /* sedge_ground_accepted_beyond, crates/sedgechisel_nodes/src/readings.rt:166 */
 static uint32_t sedge_ground_accepted_beyond_at(uint64_t ground, uint32_t value, uint64_t accepted)
 {
@@ -13764,6 +17587,14 @@ l4:;
 
 /* ---- The structs of the header, in the layout that the functions know. ---- */
 
+/* Whether structs of numbers of at most 32 bits are copied to that layout. Where numbers in memory are little-endian they
+ * have it here too, and go as they are. */
+#ifdef LITTLE
+#define COPIES_NUMBERS 0
+#else
+#define COPIES_NUMBERS 1
+#endif
+
 /* Whether those with a size_t or numbers of 64 bits are; they need not be where a size_t has 64 bits besides. One with an
  * address is copied on each machine. */
 #if defined LITTLE && SIZE_MAX == 0xffffffffffffffff
@@ -13962,6 +17793,65 @@ static void get_sedge_spacecraft_reading(uint64_t at, struct sedge_spacecraft_re
     it->state = (uint8_t)get8(at + 29);
     it->mc_count = (uint8_t)get8(at + 30);
     it->vc_count = (uint8_t)get8(at + 31);
+}
+
+static void put_sedge_commander(uint64_t at, const struct sedge_commander *it)
+{
+    put64(at, address(it->node));
+}
+
+static void get_sedge_commander(uint64_t at, struct sedge_commander *it)
+{
+    it->node = OCTETS(get64(at));
+}
+
+typedef char sedge_mission_is_laid_out_so[COPIES_NUMBERS || (IS(sedge_mission, 12, 4) && AT(sedge_mission, round_trip,
+    0) && AT(sedge_mission, orders, 4) && AT(sedge_mission, status, 6) && AT(sedge_mission, map, 8) &&
+    AT(sedge_mission, holds, 9)) ? 1 : -1];
+
+static void put_sedge_mission(uint64_t at, const struct sedge_mission *it)
+{
+    put32(at, it->round_trip);
+    put16(at + 4, it->orders);
+    put16(at + 6, it->status);
+    put8(at + 8, it->map);
+    put8(at + 9, it->holds);
+}
+
+typedef char sedge_commander_action_is_laid_out_so[COPIES_COUNTS || (IS(sedge_commander_action, 32, 8) &&
+    AT(sedge_commander_action, tag, 0) && AT(sedge_commander_action, number, 8) && AT(sedge_commander_action, last,
+    12) && AT(sedge_commander_action, count, 16) && AT(sedge_commander_action, kind, 24) && AT(sedge_commander_action,
+    alert, 25)) ? 1 : -1];
+
+static void put_sedge_commander_action(uint64_t at, const struct sedge_commander_action *it)
+{
+    put64(at, it->tag);
+    put32(at + 8, it->number);
+    put32(at + 12, it->last);
+    put64(at + 16, it->count);
+    put8(at + 24, it->kind);
+    put8(at + 25, it->alert);
+}
+
+static void get_sedge_commander_action(uint64_t at, struct sedge_commander_action *it)
+{
+    it->tag = get64(at);
+    it->number = get32(at + 8);
+    it->last = get32(at + 12);
+    it->count = (size_t)get64(at + 16);
+    it->kind = (uint8_t)get8(at + 24);
+    it->alert = (uint8_t)get8(at + 25);
+}
+
+typedef char sedge_commander_reading_is_laid_out_so[COPIES_NUMBERS || (IS(sedge_commander_reading, 12, 4) &&
+    AT(sedge_commander_reading, below, 0) && AT(sedge_commander_reading, highest, 4) && AT(sedge_commander_reading,
+    worth, 8)) ? 1 : -1];
+
+static void get_sedge_commander_reading(uint64_t at, struct sedge_commander_reading *it)
+{
+    it->below = get32(at);
+    it->highest = get32(at + 4);
+    it->worth = (uint8_t)get8(at + 8);
 }
 
 static void put_sedge_sim(uint64_t at, const struct sedge_sim *it)
@@ -14526,6 +18416,300 @@ APART uint8_t sedge_spacecraft_open_kept(struct sedge_spacecraft *spacecraft, co
     answer = (uint8_t)sedge_spacecraft_open_kept_at(spacecraft_at, config_at, kept_at);
     get_sedge_spacecraft(spacecraft_at, spacecraft);
     return answer;
+}
+
+APART void sedge_commander_close(struct sedge_commander *commander)
+{
+    unsigned char commander_octets[8 + 15];
+    const uint64_t commander_at = aligned(commander_octets);
+    put_sedge_commander(commander_at, commander);
+    sedge_commander_close_at(commander_at);
+    get_sedge_commander(commander_at, commander);
+}
+
+APART uint8_t sedge_commander_open(struct sedge_commander *commander, const struct sedge_config *config, const struct
+    sedge_mission *mission, const uint8_t *store, size_t store_count, size_t *good)
+{
+    unsigned char commander_octets[8 + 15];
+    const uint64_t commander_at = aligned(commander_octets);
+    unsigned char config_octets[COPIES_COUNTS ? 72 + 15 : 1];
+    const uint64_t config_at = COPIES_COUNTS ? aligned(config_octets) : address(config);
+    unsigned char mission_octets[COPIES_NUMBERS ? 12 + 15 : 1];
+    const uint64_t mission_at = COPIES_NUMBERS ? aligned(mission_octets) : address(mission);
+    unsigned char good_octets[COPIES_COUNTS ? 8 + 15 : 1];
+    const uint64_t good_at = COPIES_COUNTS ? aligned(good_octets) : address(good);
+    uint8_t answer;
+    put_sedge_commander(commander_at, commander);
+    if (COPIES_COUNTS) put_sedge_config(config_at, config);
+    if (COPIES_NUMBERS) put_sedge_mission(mission_at, mission);
+    answer = (uint8_t)sedge_commander_open_at(commander_at, config_at, mission_at, address(store), store_count,
+        good_at);
+    get_sedge_commander(commander_at, commander);
+    if (COPIES_COUNTS && answer == 0) *good = (size_t)get64(good_at);
+    return answer;
+}
+
+APART uint8_t sedge_commander_command(struct sedge_commander *commander, uint64_t tag, uint8_t map, uint16_t apid,
+    uint16_t sequence, const uint8_t *content, size_t content_count, uint32_t *number)
+{
+    unsigned char commander_octets[8 + 15];
+    const uint64_t commander_at = aligned(commander_octets);
+    uint8_t answer;
+    put_sedge_commander(commander_at, commander);
+    answer = (uint8_t)sedge_commander_command_at(commander_at, tag, map, apid, sequence, address(content),
+        content_count, address(number));
+    get_sedge_commander(commander_at, commander);
+    return answer;
+}
+
+APART uint8_t sedge_commander_telemetry(struct sedge_commander *commander, const uint8_t *octets, size_t count, struct
+    sedge_heard *heard)
+{
+    unsigned char commander_octets[8 + 15];
+    const uint64_t commander_at = aligned(commander_octets);
+    unsigned char heard_octets[COPIES_COUNTS ? 16 + 15 : 1];
+    const uint64_t heard_at = COPIES_COUNTS ? aligned(heard_octets) : address(heard);
+    uint8_t answer;
+    put_sedge_commander(commander_at, commander);
+    answer = (uint8_t)sedge_commander_telemetry_at(commander_at, address(octets), count, heard_at);
+    get_sedge_commander(commander_at, commander);
+    if (COPIES_COUNTS && answer == 0) get_sedge_heard(heard_at, heard);
+    return answer;
+}
+
+APART uint8_t sedge_commander_clcw(struct sedge_commander *commander, const uint8_t *octets, size_t count, struct
+    sedge_heard *heard)
+{
+    unsigned char commander_octets[8 + 15];
+    const uint64_t commander_at = aligned(commander_octets);
+    unsigned char heard_octets[COPIES_COUNTS ? 16 + 15 : 1];
+    const uint64_t heard_at = COPIES_COUNTS ? aligned(heard_octets) : address(heard);
+    uint8_t answer;
+    put_sedge_commander(commander_at, commander);
+    answer = (uint8_t)sedge_commander_clcw_at(commander_at, address(octets), count, heard_at);
+    get_sedge_commander(commander_at, commander);
+    if (COPIES_COUNTS && answer == 0) get_sedge_heard(heard_at, heard);
+    return answer;
+}
+
+APART uint8_t sedge_commander_status(struct sedge_commander *commander, const uint8_t *octets, size_t count)
+{
+    unsigned char commander_octets[8 + 15];
+    const uint64_t commander_at = aligned(commander_octets);
+    uint8_t answer;
+    put_sedge_commander(commander_at, commander);
+    answer = (uint8_t)sedge_commander_status_at(commander_at, address(octets), count);
+    get_sedge_commander(commander_at, commander);
+    return answer;
+}
+
+APART uint8_t sedge_commander_tick(struct sedge_commander *commander)
+{
+    unsigned char commander_octets[8 + 15];
+    const uint64_t commander_at = aligned(commander_octets);
+    uint8_t answer;
+    put_sedge_commander(commander_at, commander);
+    answer = (uint8_t)sedge_commander_tick_at(commander_at);
+    get_sedge_commander(commander_at, commander);
+    return answer;
+}
+
+APART uint8_t sedge_commander_next(struct sedge_commander *commander, struct sedge_commander_action *action, uint8_t
+    *out, size_t room)
+{
+    unsigned char commander_octets[8 + 15];
+    const uint64_t commander_at = aligned(commander_octets);
+    unsigned char action_octets[COPIES_COUNTS ? 32 + 15 : 1];
+    const uint64_t action_at = COPIES_COUNTS ? aligned(action_octets) : address(action);
+    uint8_t answer;
+    put_sedge_commander(commander_at, commander);
+    answer = (uint8_t)sedge_commander_next_at(commander_at, action_at, address(out), room);
+    get_sedge_commander(commander_at, commander);
+    if (COPIES_COUNTS && answer == 0) get_sedge_commander_action(action_at, action);
+    return answer;
+}
+
+APART uint8_t sedge_commander_unstored(struct sedge_commander *commander, uint8_t *out, size_t room, size_t *count)
+{
+    unsigned char commander_octets[8 + 15];
+    const uint64_t commander_at = aligned(commander_octets);
+    unsigned char count_octets[COPIES_COUNTS ? 8 + 15 : 1];
+    const uint64_t count_at = COPIES_COUNTS ? aligned(count_octets) : address(count);
+    uint8_t answer;
+    put_sedge_commander(commander_at, commander);
+    answer = (uint8_t)sedge_commander_unstored_at(commander_at, address(out), room, count_at);
+    get_sedge_commander(commander_at, commander);
+    if (COPIES_COUNTS && answer == 0) *count = (size_t)get64(count_at);
+    return answer;
+}
+
+APART uint8_t sedge_commander_stored(struct sedge_commander *commander, size_t count)
+{
+    unsigned char commander_octets[8 + 15];
+    const uint64_t commander_at = aligned(commander_octets);
+    uint8_t answer;
+    put_sedge_commander(commander_at, commander);
+    answer = (uint8_t)sedge_commander_stored_at(commander_at, count);
+    get_sedge_commander(commander_at, commander);
+    return answer;
+}
+
+APART uint8_t sedge_commander_told(struct sedge_commander *commander, const struct sedge_commander_action *action)
+{
+    unsigned char commander_octets[8 + 15];
+    const uint64_t commander_at = aligned(commander_octets);
+    unsigned char action_octets[COPIES_COUNTS ? 32 + 15 : 1];
+    const uint64_t action_at = COPIES_COUNTS ? aligned(action_octets) : address(action);
+    uint8_t answer;
+    put_sedge_commander(commander_at, commander);
+    if (COPIES_COUNTS) put_sedge_commander_action(action_at, action);
+    answer = (uint8_t)sedge_commander_told_at(commander_at, action_at);
+    get_sedge_commander(commander_at, commander);
+    return answer;
+}
+
+APART uint8_t sedge_commander_next_telemetry(struct sedge_commander *commander, size_t *count)
+{
+    unsigned char commander_octets[8 + 15];
+    const uint64_t commander_at = aligned(commander_octets);
+    unsigned char count_octets[COPIES_COUNTS ? 8 + 15 : 1];
+    const uint64_t count_at = COPIES_COUNTS ? aligned(count_octets) : address(count);
+    uint8_t answer;
+    put_sedge_commander(commander_at, commander);
+    answer = (uint8_t)sedge_commander_next_telemetry_at(commander_at, count_at);
+    get_sedge_commander(commander_at, commander);
+    if (COPIES_COUNTS && answer == 0) *count = (size_t)get64(count_at);
+    return answer;
+}
+
+APART uint8_t sedge_commander_take_telemetry(struct sedge_commander *commander, uint8_t *out, size_t room, size_t
+    *count)
+{
+    unsigned char commander_octets[8 + 15];
+    const uint64_t commander_at = aligned(commander_octets);
+    unsigned char count_octets[COPIES_COUNTS ? 8 + 15 : 1];
+    const uint64_t count_at = COPIES_COUNTS ? aligned(count_octets) : address(count);
+    uint8_t answer;
+    put_sedge_commander(commander_at, commander);
+    answer = (uint8_t)sedge_commander_take_telemetry_at(commander_at, address(out), room, count_at);
+    get_sedge_commander(commander_at, commander);
+    if (COPIES_COUNTS && answer == 0) *count = (size_t)get64(count_at);
+    return answer;
+}
+
+APART uint8_t sedge_commander_progress(struct sedge_commander *commander, uint32_t number, uint8_t *progress)
+{
+    unsigned char commander_octets[8 + 15];
+    const uint64_t commander_at = aligned(commander_octets);
+    uint8_t answer;
+    put_sedge_commander(commander_at, commander);
+    answer = (uint8_t)sedge_commander_progress_at(commander_at, number, address(progress));
+    get_sedge_commander(commander_at, commander);
+    return answer;
+}
+
+APART uint8_t sedge_commander_pause(struct sedge_commander *commander)
+{
+    unsigned char commander_octets[8 + 15];
+    const uint64_t commander_at = aligned(commander_octets);
+    uint8_t answer;
+    put_sedge_commander(commander_at, commander);
+    answer = (uint8_t)sedge_commander_pause_at(commander_at);
+    get_sedge_commander(commander_at, commander);
+    return answer;
+}
+
+APART uint8_t sedge_commander_go_on(struct sedge_commander *commander)
+{
+    unsigned char commander_octets[8 + 15];
+    const uint64_t commander_at = aligned(commander_octets);
+    uint8_t answer;
+    put_sedge_commander(commander_at, commander);
+    answer = (uint8_t)sedge_commander_go_on_at(commander_at);
+    get_sedge_commander(commander_at, commander);
+    return answer;
+}
+
+APART uint8_t sedge_commander_restart_board(struct sedge_commander *commander)
+{
+    unsigned char commander_octets[8 + 15];
+    const uint64_t commander_at = aligned(commander_octets);
+    uint8_t answer;
+    put_sedge_commander(commander_at, commander);
+    answer = (uint8_t)sedge_commander_restart_board_at(commander_at);
+    get_sedge_commander(commander_at, commander);
+    return answer;
+}
+
+APART uint8_t sedge_commander_rebuild(struct sedge_commander *commander)
+{
+    unsigned char commander_octets[8 + 15];
+    const uint64_t commander_at = aligned(commander_octets);
+    uint8_t answer;
+    put_sedge_commander(commander_at, commander);
+    answer = (uint8_t)sedge_commander_rebuild_at(commander_at);
+    get_sedge_commander(commander_at, commander);
+    return answer;
+}
+
+APART uint8_t sedge_commander_read(struct sedge_commander *commander, struct sedge_commander_reading *read)
+{
+    unsigned char commander_octets[8 + 15];
+    const uint64_t commander_at = aligned(commander_octets);
+    unsigned char read_octets[COPIES_NUMBERS ? 12 + 15 : 1];
+    const uint64_t read_at = COPIES_NUMBERS ? aligned(read_octets) : address(read);
+    uint8_t answer;
+    put_sedge_commander(commander_at, commander);
+    answer = (uint8_t)sedge_commander_read_at(commander_at, read_at);
+    get_sedge_commander(commander_at, commander);
+    if (COPIES_NUMBERS && answer == 0) get_sedge_commander_reading(read_at, read);
+    return answer;
+}
+
+APART uint8_t sedge_commander_read_ground(struct sedge_commander *commander, struct sedge_ground_reading *read)
+{
+    unsigned char commander_octets[8 + 15];
+    const uint64_t commander_at = aligned(commander_octets);
+    unsigned char read_octets[COPIES_COUNTS ? 72 + 15 : 1];
+    const uint64_t read_at = COPIES_COUNTS ? aligned(read_octets) : address(read);
+    uint8_t answer;
+    put_sedge_commander(commander_at, commander);
+    answer = (uint8_t)sedge_commander_read_ground_at(commander_at, read_at);
+    get_sedge_commander(commander_at, commander);
+    if (COPIES_COUNTS && answer == 0) get_sedge_ground_reading(read_at, read);
+    return answer;
+}
+
+APART uint8_t sedge_commander_fresh(struct sedge_commander *commander, uint8_t *out, size_t room, size_t *count)
+{
+    unsigned char commander_octets[8 + 15];
+    const uint64_t commander_at = aligned(commander_octets);
+    unsigned char count_octets[COPIES_COUNTS ? 8 + 15 : 1];
+    const uint64_t count_at = COPIES_COUNTS ? aligned(count_octets) : address(count);
+    uint8_t answer;
+    put_sedge_commander(commander_at, commander);
+    answer = (uint8_t)sedge_commander_fresh_at(commander_at, address(out), room, count_at);
+    get_sedge_commander(commander_at, commander);
+    if (COPIES_COUNTS && answer == 0) *count = (size_t)get64(count_at);
+    return answer;
+}
+
+APART uint8_t sedge_commander_renewed(struct sedge_commander *commander, size_t count)
+{
+    unsigned char commander_octets[8 + 15];
+    const uint64_t commander_at = aligned(commander_octets);
+    uint8_t answer;
+    put_sedge_commander(commander_at, commander);
+    answer = (uint8_t)sedge_commander_renewed_at(commander_at, count);
+    get_sedge_commander(commander_at, commander);
+    return answer;
+}
+
+struct sedge_text sedge_ledger_fault_name(uint8_t number)
+{
+    struct sedge_text result = {{0}};
+    sedge_ledger_fault_name_at(address(&result), number);
+    return result;
 }
 
 APART uint8_t sedge_sim_open(struct sedge_sim *sim, const struct sedge_config *config)

@@ -163,6 +163,28 @@ static inline const char *sedge_sim_fault_text(uint8_t number) {
     }
 }
 
+/* Why a commander refuses a call: the text of a sedge_ledger_fault. */
+static inline const char *sedge_ledger_fault_text(uint8_t number) {
+    switch (number) {
+    case 1: return "1 Layout: not the number of octets of a status";
+    case 2: return "2 Check: the check of a status does not hold, or a field has a value that the layout does not "
+                   "allow";
+    case 3: return "3 FieldRange: a MAP is not open, an APID or a sequence count is out of range, or the octets are "
+                   "too many for a packet";
+    case 4: return "4 TooLong: the packet would be longer than the configured maximum";
+    case 5: return "5 NoNumber: all numbers have been given";
+    case 6: return "6 NotLost: the board has not lost its record";
+    case 7: return "7 NoBoot: no boot count is left for an order that brings a record";
+    case 8: return "8 Owing: something must be stored or reported first";
+    case 9: return "9 Memory: out of memory";
+    case 252: return "252 Room: the output is too short; nothing was taken";
+    case 253: return "253 Absent: this is not the next action, the command has a fate or was not given, or the octets "
+                     "are not a CLCW";
+    case 254: return "254 OutOfRange: a parameter or a setting is out of range";
+    default: return number < 252 ? "?" : sedge_link_fault_text(number);
+    }
+}
+
 /* Which parameter is out of range, and its range: the text of a sedge_parameter. */
 static inline const char *sedge_parameter_text(uint8_t number) {
     switch (number) {

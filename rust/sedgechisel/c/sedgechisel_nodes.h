@@ -447,6 +447,226 @@ uint8_t sedge_spacecraft_read(struct sedge_spacecraft *spacecraft, struct sedge_
 SEDGE_CHECK uint8_t sedge_spacecraft_open_kept(struct sedge_spacecraft *spacecraft, const struct sedge_config *config,
                                                const struct sedge_spacecraft_reading *kept);
 
+/* ---- The commander: a ground whose commands are executed on board once and in order, over restarts of both ends at any
+ * moment (docs/COMMANDING.md). On board, the program keeps a struct sedge_log (sedgechisel.h). ---- */
+
+/* Why a commander refuses a call, and what its calls return otherwise. */
+enum sedge_ledger_fault {
+    SEDGE_LEDGER_LAYOUT = 1,        /* not the number of octets of a status */
+    SEDGE_LEDGER_CHECK = 2,         /* the check of a status does not hold, or a field has a value that the layout does
+                                     * not allow */
+    SEDGE_LEDGER_FIELD_RANGE = 3,   /* a MAP is not open, an APID or a sequence count is out of range, or the octets
+                                     * are too many for a packet */
+    SEDGE_LEDGER_TOO_LONG = 4,      /* the packet would be longer than the configured maximum */
+    SEDGE_LEDGER_NO_NUMBER = 5,     /* all numbers have been given */
+    SEDGE_LEDGER_NOT_LOST = 6,      /* the board has not lost its record */
+    SEDGE_LEDGER_NO_BOOT = 7,       /* no boot count is left for an order that brings a record */
+    SEDGE_LEDGER_OWING = 8,         /* something must be stored or reported first */
+    SEDGE_LEDGER_MEMORY = 9,        /* out of memory */
+    SEDGE_LEDGER_ROOM = 252,        /* the output is too short; nothing was taken */
+    SEDGE_LEDGER_ABSENT = 253,      /* this is not the next action, the command has a fate or was not given, or the
+                                     * octets are not a CLCW */
+    SEDGE_LEDGER_OUT_OF_RANGE = 254 /* a parameter or a setting is out of range */
+};
+
+/* What the program does next: it does this whole before it calls sedge_commander_next again. */
+enum sedge_commander_action_kind {
+    SEDGE_COMMANDER_NOTHING = 0,     /* nothing, until something arrives or a tick passes */
+    SEDGE_COMMANDER_STORE = 1,       /* append the octets of sedge_commander_unstored to the store, make sure that they
+                                      * are there, and then call sedge_commander_stored */
+    SEDGE_COMMANDER_EXECUTED = 2,    /* report that the command was executed, whole, and then call
+                                      * sedge_commander_told */
+    SEDGE_COMMANDER_UNKNOWN = 3,     /* report that nothing is known of the command: its execution may have begun. It is
+                                      * not executed later. Then call sedge_commander_told */
+    SEDGE_COMMANDER_RESTARTED = 4,   /* report that the board has restarted, and then call sedge_commander_told */
+    SEDGE_COMMANDER_RECORD_LOST = 5, /* report that the board has lost its record, and then call sedge_commander_told.
+                                      * The board executes nothing until an operator calls sedge_commander_rebuild */
+    SEDGE_COMMANDER_FOREIGN = 6,     /* report that the board has passed these numbers, and that their commands are not
+                                      * this store's; then call sedge_commander_told */
+    SEDGE_COMMANDER_ALERT = 7,       /* nothing need be done: the sender has given up, and the commander begins another
+                                      * session by itself */
+    SEDGE_COMMANDER_TELEMETRY = 8,   /* call sedge_commander_take_telemetry */
+    SEDGE_COMMANDER_SEND = 9         /* send the frame at the beginning of the buffer */
+};
+
+/* The progress of a command without a fate, by COP-1. */
+enum sedge_progress {
+    SEDGE_PROGRESS_WAITS = 0,   /* not all of it has been sent */
+    SEDGE_PROGRESS_SENT = 1,    /* all of it has been sent */
+    SEDGE_PROGRESS_ON_BOARD = 2 /* all of it is acknowledged */
+};
+
+/* A handle that holds a commander, or none. One rule applies: the program does what sedge_commander_next writes, whole,
+ * before it calls sedge_commander_next again. Between the two it makes no other call of the commander than those below.
+ * So a program looks like the following, where append returns once the octets are in the store, report tells the user,
+ * and octets has room for action.count octets:
+ *
+ *     uint8_t out[SEDGE_PACKET_LONGEST];
+ *     struct sedge_commander_action action;
+ *     size_t count;
+ *     while (!sedge_commander_next(&commander, &action, out, sizeof out) && action.kind != SEDGE_COMMANDER_NOTHING)
+ *         switch (action.kind) {
+ *         case SEDGE_COMMANDER_STORE:
+ *             if (sedge_commander_unstored(&commander, octets, sizeof octets, &count)) stop();
+ *             append(octets, count);
+ *             sedge_commander_stored(&commander, count);
+ *             break;
+ *         case SEDGE_COMMANDER_SEND: send(out, action.count); break;
+ *         case SEDGE_COMMANDER_TELEMETRY:
+ *             if (sedge_commander_take_telemetry(&commander, out, sizeof out, &count)) stop();
+ *             break;
+ *         case SEDGE_COMMANDER_ALERT: break;
+ *         default:
+ *             report(&action);
+ *             if (sedge_commander_told(&commander, &action)) stop();
+ *         } */
+struct sedge_commander {
+    void *node;
+};
+
+/* Closes the commander, if there is one; the handle then holds none. */
+void sedge_commander_close(struct sedge_commander *commander);
+
+/* The settings of a mission. */
+struct sedge_mission {
+    uint32_t round_trip; /* the longest time in ticks from sending a frame to the arrival of a CLCW that was made
+                          * after it */
+    uint16_t orders;     /* the APID of orders, 0 to 2,046 */
+    uint16_t status;     /* the APID of the board's status */
+    uint8_t map;         /* the MAP of orders, one that is open */
+    uint8_t holds;       /* 1 if sending stops after a restart of the board, or the loss of its record, until
+                          * sedge_commander_go_on is called, otherwise 0. The first status of a board counts as a
+                          * restart */
+};
+
+/* Opens a commander, with a ground in S6, from the octets of its store; a new store has none. The commander replaces
+ * any that the handle holds, as sedge_ground_open does. Writes how many octets of the store are good: truncate the
+ * store to this length before you append to it. Returns 0, SEDGE_LEDGER_OUT_OF_RANGE (a parameter, or holds), or the
+ * first that applies of SEDGE_LEDGER_FIELD_RANGE (the MAP of orders is not open, or their APID is above 2,046),
+ * SEDGE_LEDGER_TOO_LONG (part or max_packet is below 23) and SEDGE_LEDGER_MEMORY. */
+SEDGE_CHECK uint8_t sedge_commander_open(struct sedge_commander *commander, const struct sedge_config *config,
+                                         const struct sedge_mission *mission, const uint8_t *store,
+                                         size_t store_count, size_t *good);
+
+/* Gives the commander a command, after all others, and writes its number. The commander writes the command packet; apid
+ * and sequence are its APID and its sequence count, and content the mission's octets. tag is the caller's own: give
+ * each command another one, because reports carry only the tag. Returns 0, or the first that applies of
+ * SEDGE_LEDGER_FIELD_RANGE (a MAP that is not open, an APID above 2,046, a sequence count above 16,383, or more than
+ * 65,528 octets), SEDGE_LEDGER_TOO_LONG, SEDGE_LEDGER_NO_NUMBER and SEDGE_LEDGER_MEMORY. */
+SEDGE_CHECK uint8_t sedge_commander_command(struct sedge_commander *commander, uint64_t tag, uint8_t map,
+                                            uint16_t apid, uint16_t sequence, const uint8_t *content,
+                                            size_t content_count, uint32_t *number);
+
+/* Takes octets that came from the board, exactly one telemetry frame, and writes what they are, as
+ * sedge_ground_telemetry does. sedge_commander_take_telemetry then takes its packets. Returns 0 or
+ * SEDGE_LEDGER_MEMORY. */
+SEDGE_CHECK uint8_t sedge_commander_telemetry(struct sedge_commander *commander, const uint8_t *octets, size_t count,
+                                              struct sedge_heard *heard);
+
+/* Takes a CLCW that came by itself, and writes what becomes of it, as sedge_ground_clcw does. Returns 0, or
+ * SEDGE_LEDGER_ABSENT if the octets are not four. */
+SEDGE_CHECK uint8_t sedge_commander_clcw(struct sedge_commander *commander, const uint8_t *octets, size_t count,
+                                         struct sedge_heard *heard);
+
+/* Takes the octets of a status that came without a packet. (sedge_commander_take_telemetry takes those in telemetry by
+ * itself.) A status that contains nothing new changes nothing. Returns 0, or the first that applies of
+ * SEDGE_LEDGER_LAYOUT (not 27 octets), SEDGE_LEDGER_CHECK and SEDGE_LEDGER_MEMORY. */
+SEDGE_CHECK uint8_t sedge_commander_status(struct sedge_commander *commander, const uint8_t *octets, size_t count);
+
+/* Counts a tick of the clock. An alert is the next action of sedge_commander_next. Returns 0. */
+uint8_t sedge_commander_tick(struct sedge_commander *commander);
+
+/* The next action of a commander's program. The note of a field begins with the kinds for which the field is set,
+ * without SEDGE_COMMANDER_; for all others it is 0. */
+struct sedge_commander_action {
+    uint64_t tag;    /* EXECUTED, UNKNOWN: the tag of the command */
+    uint32_t number; /* RESTARTED: the new boot count. RECORD_LOST: the mark of the loss. FOREIGN: the first number */
+    uint32_t last;   /* FOREIGN: the last number */
+    size_t count;    /* STORE: the number of octets to be appended. SEND: the length of the frame in octets */
+    uint8_t kind;    /* of sedge_commander_action_kind */
+    uint8_t alert;   /* ALERT: of sedge_alert */
+};
+
+/* Writes the program's next action. The program completes it before it calls this again. A frame is written to the
+ * beginning of out, whose other octets stay. Returns 0, or the first that applies of SEDGE_LEDGER_ROOM (the buffer is
+ * shorter than 1,024 octets) and SEDGE_LEDGER_MEMORY. */
+SEDGE_CHECK uint8_t sedge_commander_next(struct sedge_commander *commander, struct sedge_commander_action *action,
+                                         uint8_t *out, size_t room);
+
+/* Writes the octets that must be appended to the store, and their number; 0 octets unless sedge_commander_next writes
+ * STORE, with this number. Returns 0 or SEDGE_LEDGER_ROOM. */
+SEDGE_CHECK uint8_t sedge_commander_unstored(struct sedge_commander *commander, uint8_t *out, size_t room,
+                                             size_t *count);
+
+/* Records that all octets of sedge_commander_unstored are in the store; count is their number. Call nothing else of the
+ * commander between the two: a command or a status adds octets. Returns 0, or changes nothing and returns
+ * SEDGE_LEDGER_ABSENT if this is not the number of octets that are due: if octets were appended, open the commander
+ * from the store again. */
+SEDGE_CHECK uint8_t sedge_commander_stored(struct sedge_commander *commander, size_t count);
+
+/* Records that this action of sedge_commander_next, EXECUTED, UNKNOWN, RESTARTED, RECORD_LOST or FOREIGN, was reported
+ * to the user. After RESTARTED and RECORD_LOST the session ends. Returns 0, or the first that applies of
+ * SEDGE_LEDGER_ABSENT (it is not the next action) and SEDGE_LEDGER_MEMORY. */
+SEDGE_CHECK uint8_t sedge_commander_told(struct sedge_commander *commander,
+                                         const struct sedge_commander_action *action);
+
+/* Writes the length in octets of the oldest telemetry packet, 7 to 65,542, or 0 if none waits. Returns 0. */
+uint8_t sedge_commander_next_telemetry(struct sedge_commander *commander, size_t *count);
+
+/* Takes the oldest telemetry packet. Writes it and the number of its octets, or 0 octets if none waits. If it has the
+ * APID of the board's status and 27 octets of data, the commander also takes it as a status. Returns 0, or the first
+ * that applies of SEDGE_LEDGER_ROOM and SEDGE_LEDGER_MEMORY. */
+SEDGE_CHECK uint8_t sedge_commander_take_telemetry(struct sedge_commander *commander, uint8_t *out, size_t room,
+                                                   size_t *count);
+
+/* Writes the progress of the command with this number, of sedge_progress, by COP-1 in the current session or, if none
+ * is open, the last one. Only EXECUTED of sedge_commander_next states that it was executed. Returns 0, or
+ * SEDGE_LEDGER_ABSENT if the command has a fate or was not given. */
+SEDGE_CHECK uint8_t sedge_commander_progress(struct sedge_commander *commander, uint32_t number, uint8_t *progress);
+
+/* Stops the submission of commands to the ground until sedge_commander_go_on. The ground still sends the commands that
+ * were submitted. Returns 0. */
+uint8_t sedge_commander_pause(struct sedge_commander *commander);
+
+/* Resumes the submission of commands. Returns 0. */
+uint8_t sedge_commander_go_on(struct sedge_commander *commander);
+
+/* Has the order to restart sent to the board, until the board has another boot count. Returns 0. */
+uint8_t sedge_commander_restart_board(struct sedge_commander *commander);
+
+/* Makes the order that brings a record to a board that has lost its own; an operator decides this. Once a status shows
+ * that the board obeyed it, each command that was stored by now and has no fate is UNKNOWN, whether or not it was sent.
+ * Returns 0, or the first that applies of SEDGE_LEDGER_NOT_LOST, SEDGE_LEDGER_NO_BOOT and SEDGE_LEDGER_MEMORY. */
+SEDGE_CHECK uint8_t sedge_commander_rebuild(struct sedge_commander *commander);
+
+/* What sedge_commander_read writes. */
+struct sedge_commander_reading {
+    uint32_t below;   /* the number up to which every command has its fate */
+    uint32_t highest; /* the highest number that was given, or that a command of another ground had on board */
+    uint8_t worth;    /* 1 if a fresh store would have less than half as many octets, and nothing is left to be
+                       * stored or reported; otherwise 0 */
+};
+
+/* Reads the commander: which commands have no fate yet, and whether a fresh store is worth its writing. The commander
+ * does not change. Returns 0. */
+uint8_t sedge_commander_read(struct sedge_commander *commander, struct sedge_commander_reading *read);
+
+/* Reads the commander's ground, as sedge_ground_read does. Returns 0. */
+uint8_t sedge_commander_read_ground(struct sedge_commander *commander, struct sedge_ground_reading *read);
+
+/* Writes the octets of a fresh store of the same commands, and their number; the commander does not change. Write them
+ * to a new file, replace the store with it, and call sedge_commander_renewed; append nothing to the store meanwhile. If
+ * worth of sedge_commander_read is 1, half the length of the present store is room enough. Returns 0, or the first that
+ * applies of SEDGE_LEDGER_OWING (something must be stored or reported first), SEDGE_LEDGER_MEMORY and
+ * SEDGE_LEDGER_ROOM. */
+SEDGE_CHECK uint8_t sedge_commander_fresh(struct sedge_commander *commander, uint8_t *out, size_t room, size_t *count);
+
+/* Records that the store now has this many octets, which begin with those of sedge_commander_fresh. Returns 0. */
+uint8_t sedge_commander_renewed(struct sedge_commander *commander, size_t count);
+
+/* Returns the name of a sedge_ledger_fault of 1 to 9; "?" for another number. */
+struct sedge_text sedge_ledger_fault_name(uint8_t number);
+
 /* ---- A simulated link between two nodes, for tests: it keeps the order of the frames in each direction, and loses or
  * damages frames only in ways that the receiver detects. ---- */
 
@@ -774,6 +994,31 @@ SEDGE_CHECK uint8_t sedge_sim_entry(struct sedge_sim *sim, uint8_t record, uint8
 #define SEDGE_RECEIVED_AD ((uint8_t)3)
 #define SEDGE_RECEIVED_BD ((uint8_t)4)
 #define SEDGE_RECEIVED_BC ((uint8_t)5)
+#define SEDGE_LEDGER_LAYOUT ((uint8_t)1)
+#define SEDGE_LEDGER_CHECK ((uint8_t)2)
+#define SEDGE_LEDGER_FIELD_RANGE ((uint8_t)3)
+#define SEDGE_LEDGER_TOO_LONG ((uint8_t)4)
+#define SEDGE_LEDGER_NO_NUMBER ((uint8_t)5)
+#define SEDGE_LEDGER_NOT_LOST ((uint8_t)6)
+#define SEDGE_LEDGER_NO_BOOT ((uint8_t)7)
+#define SEDGE_LEDGER_OWING ((uint8_t)8)
+#define SEDGE_LEDGER_MEMORY ((uint8_t)9)
+#define SEDGE_LEDGER_ROOM ((uint8_t)252)
+#define SEDGE_LEDGER_ABSENT ((uint8_t)253)
+#define SEDGE_LEDGER_OUT_OF_RANGE ((uint8_t)254)
+#define SEDGE_COMMANDER_NOTHING ((uint8_t)0)
+#define SEDGE_COMMANDER_STORE ((uint8_t)1)
+#define SEDGE_COMMANDER_EXECUTED ((uint8_t)2)
+#define SEDGE_COMMANDER_UNKNOWN ((uint8_t)3)
+#define SEDGE_COMMANDER_RESTARTED ((uint8_t)4)
+#define SEDGE_COMMANDER_RECORD_LOST ((uint8_t)5)
+#define SEDGE_COMMANDER_FOREIGN ((uint8_t)6)
+#define SEDGE_COMMANDER_ALERT ((uint8_t)7)
+#define SEDGE_COMMANDER_TELEMETRY ((uint8_t)8)
+#define SEDGE_COMMANDER_SEND ((uint8_t)9)
+#define SEDGE_PROGRESS_WAITS ((uint8_t)0)
+#define SEDGE_PROGRESS_SENT ((uint8_t)1)
+#define SEDGE_PROGRESS_ON_BOARD ((uint8_t)2)
 #define SEDGE_SIM_MEMORY ((uint8_t)6)
 #define SEDGE_SIM_NOTHING_IN_TRANSIT ((uint8_t)7)
 #define SEDGE_SIM_NOT_DETECTABLE ((uint8_t)8)
