@@ -77,8 +77,9 @@ pub use map::{packets, segments, Dropped, Limits, Map, MapFault, Packets, Segmen
 #[cfg_attr(docsrs, doc(cfg(feature = "nodes")))]
 #[cfg(feature = "nodes")]
 pub use nodes::{
-    Begun, Config, Ground, Heard, HeardClcw, HeardReport, KeptGround, KeptNumbers, Link, LinkFault,
-    OpenFault, Parameter, Received, Record, SimFault, Spacecraft,
+    Begun, Commander, CommanderAction, CommanderDue, Config, Ground, Heard, HeardClcw, HeardReport,
+    KeptGround, KeptNumbers, LedgerFault, Link, LinkFault, Mission, OpenFault, Parameter, Progress, Received,
+    Record, SimFault, Spacecraft,
 };
 pub use packet::{GapCheck, Packet, PacketFault, PacketKind, SequenceFlags};
 pub use tc::{Body, Command, Fecf, Segment, SegmentFlags, TcFault, TcFrame, TcFrames};

@@ -1,10 +1,15 @@
 //! Both nodes of the telecommand link, over the program's allocator (feature `nodes`).
 
+#[macro_use]
+mod readings;
+
+mod commander;
 mod config;
 mod ground;
 mod link;
 mod spacecraft;
 
+pub use commander::{Commander, CommanderAction, CommanderDue, LedgerFault, Mission, Progress};
 pub(crate) use config::Raw;
 pub use config::{Config, OpenFault, Parameter};
 pub use ground::{Ground, Heard, HeardClcw, HeardReport, KeptGround};
@@ -89,6 +94,8 @@ mod tests {
             assert_eq!(SimFault::from_number(it).map_or("?", SimFault::name), word.as_str());
             let word = ffi::nodes::sedge_parameter_name(it);
             assert_eq!(Parameter::from_number(it).map_or("?", Parameter::name), word.as_str());
+            let word = ffi::nodes::sedge_ledger_fault_name(it);
+            assert_eq!(LedgerFault::from_number(it).map_or("?", LedgerFault::name), word.as_str());
         }
     }
 

@@ -182,7 +182,7 @@ mod tests {
         );
         #[cfg(feature = "nodes")]
         {
-            compare! { LinkFault "link_fault", SimFault "sim_fault", }
+            compare! { LinkFault "link_fault", SimFault "sim_fault", LedgerFault "ledger_fault", }
             let ours = (0..=u8::MAX)
                 .filter_map(Parameter::from_number)
                 .map(|it| OpenFault::OutOfRange(it).to_string());

@@ -16,6 +16,10 @@ pub const SEDGE_NODE_ABSENT: u8 = 253;
 pub const SEDGE_NODE_OUT_OF_RANGE: u8 = 254;
 pub const SEDGE_NODE_NONE: u8 = 255;
 
+pub const SEDGE_LEDGER_ROOM: u8 = 252;
+pub const SEDGE_LEDGER_ABSENT: u8 = 253;
+pub const SEDGE_LEDGER_OUT_OF_RANGE: u8 = 254;
+
 pub const SEDGE_NO_PARAMETER: u8 = 0;
 
 // enum sedge_heard_kind
@@ -35,6 +39,18 @@ pub const SEDGE_RECEIVED_FOREIGN: u8 = 2;
 pub const SEDGE_RECEIVED_AD: u8 = 3;
 pub const SEDGE_RECEIVED_BD: u8 = 4;
 pub const SEDGE_RECEIVED_BC: u8 = 5;
+
+// enum sedge_commander_action_kind
+pub const SEDGE_COMMANDER_NOTHING: u8 = 0;
+pub const SEDGE_COMMANDER_STORE: u8 = 1;
+pub const SEDGE_COMMANDER_EXECUTED: u8 = 2;
+pub const SEDGE_COMMANDER_UNKNOWN: u8 = 3;
+pub const SEDGE_COMMANDER_RESTARTED: u8 = 4;
+pub const SEDGE_COMMANDER_RECORD_LOST: u8 = 5;
+pub const SEDGE_COMMANDER_FOREIGN: u8 = 6;
+pub const SEDGE_COMMANDER_ALERT: u8 = 7;
+pub const SEDGE_COMMANDER_TELEMETRY: u8 = 8;
+pub const SEDGE_COMMANDER_SEND: u8 = 9;
 
 // enum sedge_reply_kind
 pub const SEDGE_REPLY_DONE: u8 = 0;
@@ -143,6 +159,35 @@ pub struct SpacecraftReading {
 
 #[repr(C)]
 #[derive(Clone, Copy, Debug, Default)]
+pub struct Mission {
+    pub round_trip: u32,
+    pub orders: u16,
+    pub status: u16,
+    pub map: u8,
+    pub holds: u8,
+}
+
+#[repr(C)]
+#[derive(Clone, Copy, Debug, Default)]
+pub struct CommanderAction {
+    pub tag: u64,
+    pub number: u32,
+    pub last: u32,
+    pub count: usize,
+    pub kind: u8,
+    pub alert: u8,
+}
+
+#[repr(C)]
+#[derive(Clone, Copy, Debug, Default)]
+pub struct CommanderReading {
+    pub below: u32,
+    pub highest: u32,
+    pub worth: u8,
+}
+
+#[repr(C)]
+#[derive(Clone, Copy, Debug, Default)]
 pub struct Reply {
     pub count: usize,
     pub whole: u64,
@@ -205,6 +250,7 @@ macro_rules! handle {
 
 handle!(Ground, sedge_ground_close);
 handle!(Spacecraft, sedge_spacecraft_close);
+handle!(Commander, sedge_commander_close);
 handle!(Sim, sedge_sim_close);
 
 /// A handle. Even a call that only reads writes to it, and then restores it.
@@ -216,11 +262,16 @@ impl<T> Own<T> {
         self.0.get_mut()
     }
 
-    /// Makes a call that only reads.
-    pub fn read(&self, call: impl FnOnce(&mut T) -> u8) {
+    /// Makes a call that only reads, and returns its answer.
+    pub fn ask(&self, call: impl FnOnce(&mut T) -> u8) -> u8 {
         // SAFETY: an `UnsafeCell` is not `Sync`, and a call of the library makes no other one, so this is the one
         // reference to the handle while it runs.
-        crate::numbers::done(call(unsafe { &mut *self.0.get() }));
+        call(unsafe { &mut *self.0.get() })
+    }
+
+    /// Makes a call that only reads, and is not refused.
+    pub fn read(&self, call: impl FnOnce(&mut T) -> u8) {
+        crate::numbers::done(self.ask(call));
     }
 
     /// Returns whether a call that only reads found what it looks for.

@@ -1,6 +1,6 @@
 //! The managed parameters.
 
-use super::LinkFault;
+use super::{LedgerFault, LinkFault};
 use crate::ffi::nodes as raw;
 use core::fmt;
 
@@ -230,11 +230,20 @@ pub enum OpenFault {
     Kept,
     /// Memory ran out.
     Memory,
+    /// A commander is not opened: 3 [`FieldRange`](LedgerFault::FieldRange), 4 [`TooLong`](LedgerFault::TooLong) or 9
+    /// [`Memory`](LedgerFault::Memory).
+    Ledger(LedgerFault),
 }
 
 impl From<LinkFault> for OpenFault {
     fn from(_: LinkFault) -> Self {
         Self::Memory
+    }
+}
+
+impl From<LedgerFault> for OpenFault {
+    fn from(fault: LedgerFault) -> Self {
+        Self::Ledger(fault)
     }
 }
 
@@ -245,6 +254,7 @@ impl fmt::Display for OpenFault {
             Self::FarmB => out.write_str("FARM-B is not 0 to 3"),
             Self::Kept => out.write_str("no ground of this configuration gives this record"),
             Self::Memory => fmt::Display::fmt(&LinkFault::Memory, out),
+            Self::Ledger(fault) => fmt::Display::fmt(fault, out),
         }
     }
 }

@@ -3,6 +3,10 @@
 #[cfg(feature = "nodes")]
 mod allocator;
 mod codecs;
+#[cfg(feature = "nodes")]
+mod commander;
+#[cfg(feature = "nodes")]
+mod commanding;
 mod common;
 #[cfg(feature = "nodes")]
 mod link;

@@ -23,8 +23,9 @@ macro_rules! faults {
 }
 
 faults! {
-    OpenFault OpenFault::Memory,
+    OpenFault OpenFault::Memory | OpenFault::Ledger(LedgerFault::Memory),
     LinkFault LinkFault::Memory,
+    LedgerFault LedgerFault::Memory,
     SimFault SimFault::Memory,
     TmFault TmFault::Memory,
     CopFault CopFault::Damaged,
@@ -313,6 +314,151 @@ fn is_recorded(link: &mut Twins<Link>, trial: &mut Trial) {
     trial.both(link, |it| it.submissions().nth(place).transpose());
 }
 
+/// A commander, and the board that stands in for its spacecraft.
+struct Commanding {
+    commander: Twins<Commander>,
+    spacecraft: Spacecraft,
+    executor: Executor,
+    places: [[u8; 50]; 2],
+    store: Vec<u8>,
+}
+
+const MISSION: Mission = Mission { round_trip: 1, orders: 1, status: 2, map: 0, holds: false };
+
+/// What is compared of an action: in place of octets, their number and their check.
+#[derive(Clone, Copy, Debug, PartialEq)]
+enum Acted {
+    Octets(u8, usize, u16),
+    Report(u8, u64, u32),
+}
+
+fn acted(action: CommanderAction) -> Acted {
+    let octets = |kind, octets: &[u8]| Acted::Octets(kind, octets.len(), check(octets));
+    match action {
+        CommanderAction::Store(it) => octets(1, it),
+        CommanderAction::Executed(tag) => Acted::Report(2, tag, 0),
+        CommanderAction::Unknown(tag) => Acted::Report(3, tag, 0),
+        CommanderAction::Restarted(boot) => Acted::Report(4, 0, boot),
+        CommanderAction::RecordLost(mark) => Acted::Report(5, 0, mark),
+        CommanderAction::Foreign(first, last) => Acted::Report(6, first.into(), last),
+        CommanderAction::Alert(alert) => Acted::Report(7, alert.number().into(), 0),
+        CommanderAction::Telemetry(it) => octets(8, it),
+        CommanderAction::Send(it) => octets(9, it),
+    }
+}
+
+impl Commanding {
+    fn new(trial: &mut Trial) -> Self {
+        let places = [Executor::new_record(); 2];
+        let commander = trial.twins(|| opened(&Config::default(), &[]));
+        let spacecraft = Spacecraft::new(&Config::default()).unwrap();
+        let executor = Executor::start(&places[0], &places[1], 1);
+        Self { commander, spacecraft, executor, places, store: Vec::new() }
+    }
+
+    fn step(&mut self, trial: &mut Trial) {
+        let twins = &mut self.commander;
+        match trial.chance.below(16) {
+            0..=2 => {
+                let content = trial.any_packets(PacketKind::Telecommand);
+                let map = trial.any_map();
+                trial.both(twins, |it| it.command(7, map, 5, 44, &content));
+            }
+            3..=9 => self.acts(trial),
+            10 => self.board_acts(),
+            11..=12 => self.reports(trial),
+            13 => {
+                let word = self.spacecraft.control_word().encode().unwrap();
+                trial.shown(twins, |it| it.clcw(&word));
+                let status = trial.damaged(self.executor.status(0).to_vec());
+                trial.both(twins, |it| it.status(&status));
+            }
+            14 if trial.chance.once_in(8) => {
+                self.places = [[0; 50]; 2];
+                self.restart();
+            }
+            14 if trial.chance.once_in(2) => trial.both(twins, |it| it.rebuild()),
+            14 => trial.shown(twins, |it| it.restart_board()),
+            _ => trial.shown(twins, |it| it.tick()),
+        }
+        self.is_read(trial);
+    }
+
+    /// Both complete an action. The frame that goes up, and what is appended to the store, are those of the one of
+    /// which nothing is refused.
+    fn acts(&mut self, trial: &mut Trial) {
+        let Twins { tried, plain } = &mut self.commander;
+        let answer = trial.tried(|| {
+            let Some(due) = tried.next()? else { return Ok(None) };
+            let seen = acted(due.action());
+            due.done().map(|()| Some(seen))
+        });
+        let due = plain.next().unwrap();
+        assert_eq!(answer, Ok(due.as_ref().map(|it| acted(it.action()))));
+        if let Some(due) = due {
+            match due.action() {
+                CommanderAction::Store(octets) => self.store.extend_from_slice(octets),
+                CommanderAction::Send(frame) => drop(self.spacecraft.receive(frame)),
+                _ => {}
+            }
+            due.done().unwrap();
+        }
+    }
+
+    fn restart(&mut self) {
+        self.spacecraft = Spacecraft::new(&Config::default()).unwrap();
+        self.executor = Executor::start(&self.places[0], &self.places[1], 5);
+    }
+
+    /// The board does all that is due, and takes all that has arrived.
+    fn board_acts(&mut self) {
+        loop {
+            if let Some(due) = self.executor.next() {
+                match due.action() {
+                    LogAction::Write(place, octets) => self.places[*place as usize] = *octets,
+                    LogAction::Execute(_) => {}
+                    LogAction::Restart => return self.restart(),
+                }
+                due.done();
+            } else if let Some((_, order)) = self.spacecraft.take_bypass().unwrap() {
+                self.executor.obey(&order).ok();
+            } else if let Some((_, command)) = self.spacecraft.take().unwrap() {
+                self.executor.offer(&command).ok();
+            } else {
+                return;
+            }
+        }
+    }
+
+    /// The board sends a frame with its status, which arrives.
+    fn reports(&mut self, trial: &mut Trial) {
+        let status = self.executor.status(self.spacecraft.ready());
+        let (kind, flags) = (PacketKind::Telemetry, SequenceFlags::Unsegmented);
+        let packet = Packet { kind, secondary: false, apid: MISSION.status, flags, count: 0, data: &status };
+        self.spacecraft.telemetry(packet.encode(&mut [0; 33]).unwrap()).unwrap();
+        let frame = trial.damaged(self.spacecraft.telemetry_frame(&mut [0; TmFrame::LONGEST]).to_vec());
+        trial.both(&mut self.commander, |it| it.telemetry(&frame));
+    }
+
+    fn is_read(&mut self, trial: &mut Trial) {
+        let number = trial.chance.below(40);
+        let twins = &mut self.commander;
+        trial.shown(twins, |it| (it.below(), it.highest(), it.is_worth(), it.progress(number)));
+        trial.shown(twins, |it| (it.state(), it.vs(), it.nn(), it.outstanding(), it.frame_length()));
+        trial.shown(twins, |it| (it.submitted(), it.sent_whole(), it.acknowledged_whole()));
+        trial.shown(twins, |it| (it.unsent(), it.due(), it.bypassed(), it.ticks(), it.count()));
+        if trial.chance.once_in(8) {
+            trial.both(twins, |it| it.fresh());
+            let store = &self.store;
+            drop(trial.tried(|| opened(&Config::default(), store)).unwrap());
+        }
+    }
+}
+
+fn opened(config: &Config, store: &[u8]) -> Result<Commander, OpenFault> {
+    Commander::open(config, &MISSION, store).map(|it| it.0)
+}
+
 /// Plays sessions, of which nothing is left; returns how many calls were refused for want of memory.
 fn leaves_nothing(sessions: u32, seed: u64, mut session: impl FnMut(&mut Trial)) -> u32 {
     let mut trial = Trial { chance: Chance(seed), refused: 0 };
@@ -343,6 +489,15 @@ fn the_memory_of_random_links() {
     assert!(refused > 1000, "{refused}");
 }
 
+#[test]
+fn the_memory_of_random_commanders() {
+    let refused = leaves_nothing(200, 14, |trial| {
+        let mut commanding = Commanding::new(trial);
+        (0..300).for_each(|_| commanding.step(trial));
+    });
+    assert!(refused > 1000, "{refused}");
+}
+
 /// A node that is dropped has given back all that it took, whichever node and whatever the length of its frames.
 #[test]
 fn the_memory_of_each_node() {
@@ -360,26 +515,28 @@ fn the_memory_of_each_node() {
     leaves(|it| Ground::new(it).unwrap(), |it| it.bypass(4, &packet).unwrap());
     leaves(|it| Spacecraft::new(it).unwrap(), |it| it.telemetry(&packet).unwrap());
     leaves(|it| Link::new(it).unwrap(), |it| it.bypass(4, &packet).unwrap());
+    leaves(|it| opened(it, &[]).unwrap(), |it| it.command(7, 4, 5, 44, &packet).map(drop).unwrap());
 }
 
 /// Where a node is not opened, nothing is kept.
 #[test]
 fn nodes_that_are_not_opened() {
-    fn leaves<N: Debug>(make: impl Fn(&Config) -> Result<N, OpenFault>) {
+    fn leaves<N: Debug>(memory: OpenFault, make: impl Fn(&Config) -> Result<N, OpenFault>) {
         let before = live();
         for after in 0..20 {
             let refusals = Refusals { after, all: true };
             let (made, is_refused) = refusing(refusals, || make(&Config::default()));
-            assert_eq!(made.err(), is_refused.then_some(OpenFault::Memory));
+            assert_eq!(made.err(), is_refused.then_some(memory));
             let (made, _) = refusing(refusals, || make(&Config { limit: 0, ..Config::default() }));
             assert_eq!(made.err(), Some(OpenFault::OutOfRange(Parameter::Limit)));
         }
         assert!(refusing(Refusals::default(), || make(&Config::default())).1);
         assert_eq!(live(), before);
     }
-    leaves(Ground::new);
-    leaves(Spacecraft::new);
-    leaves(Link::new);
+    leaves(OpenFault::Memory, Ground::new);
+    leaves(OpenFault::Memory, Spacecraft::new);
+    leaves(OpenFault::Memory, Link::new);
+    leaves(OpenFault::Ledger(LedgerFault::Memory), |it| opened(it, &[]));
 }
 
 /// An iterator that is refused is at its end, and what it did not give is given by the next one.
