@@ -275,6 +275,7 @@ fn refusals_of_a_commander() {
     let mut commander = opened(&octets_of(GIVEN));
     assert_eq!(commander.status(&octets_of(SAYS)[1..]).map_err(LedgerFault::number), Err(1));
     assert_eq!(commander.status(&[0; 27]).map_err(LedgerFault::number), Err(2));
+    assert_eq!(commander.status(&[0; 26]), Err(LedgerFault::Layout));
     assert_eq!(commander.status(&[0; 27]), Err(LedgerFault::Check));
     for (map, apid, sequence) in [(64, 5, 0), (3, 2047, 0), (3, 5, 16384)] {
         assert_eq!(commander.command(1, map, apid, sequence, &[]), Err(LedgerFault::FieldRange));
