@@ -263,9 +263,9 @@ fn commands_over_a_lossy_link() {
 #[test]
 fn commands_over_restarts_of_both_ends() {
     let (mut died, mut started, mut unknown) = (0, 0, 0);
-    for seed in 1..=30 {
+    for seed in 1..=100 {
         let mut world = World::new(seed, MISSION);
-        (world.loss, world.deaths, world.board.resets) = (6, 60, 120);
+        (world.loss, world.deaths, world.board.resets) = (6, 40, 60);
         let mut ticks = 0;
         while world.commander.highest() < 60
             || world.commander.below() < 60

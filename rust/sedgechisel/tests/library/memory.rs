@@ -333,7 +333,8 @@ enum Acted {
 }
 
 fn acted(action: CommanderAction) -> Acted {
-    let octets = |kind, octets: &[u8]| Acted::Octets(kind, octets.len(), check(octets));
+    // (The check of a whole frame is 0.)
+    let octets = |kind, it: &[u8]| Acted::Octets(kind, it.len(), check(&it[..it.len() - 2]));
     match action {
         CommanderAction::Store(it) => octets(1, it),
         CommanderAction::Executed(tag) => Acted::Report(2, tag, 0),
