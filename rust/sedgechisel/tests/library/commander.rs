@@ -11,7 +11,7 @@ const MARK: u32 = 0x1234_5678;
 // The entries of a store, for a command with the tag TAG on MAP 3: APID 5, count 44, number 1, the octets 1, 2, 3.
 const GIVEN: &str = "00000023011122334455667788031005c02c000a0000000101020354997ac4135192f6";
 const HEARD: &str = "0000001e0200000001000000010000000000000001de30534300a7fcf126";
-const HEARD_OTHER: &str = "0000001e0200000001000000010000000000000001de30534200bee7c067";
+const HEARD_OTHER: &str = "0000001e0200000001000000020000000000000003de30534300965575f6";
 const HEARD_BROUGHT: &str = "0000001e0200010000000000010000000000000000000000000095d51a92";
 const LOSS: &str = "0000000d0312345678767aac24";
 const ORDERED: &str = "0000001504123456780001000000000001bdd62e37";
@@ -28,7 +28,7 @@ const LAST_BOOT_BUT_ONE: &str = "000000390600000000fffeffff000000000000000000000
 
 // Statuses.
 const SAYS: &str = "0000000001000000010000000000000001de305343000098bf224c";
-const OTHER: &str = "0000000001000000010000000000000001de3053420000997d487b";
+const OTHER: &str = "0000000001000000020000000000000003de30534300001e5d591c";
 const LOST: &str = "03123456780000000000000000000000000000000000ff404768ef";
 const BROUGHT: &str = "000001000000000001000000000000000000000000000054817c32";
 
@@ -115,10 +115,11 @@ fn another_ground_has_sent_a_command() {
     commander.status(&octets_of(OTHER)).unwrap();
     stores(&mut commander, HEARD_OTHER);
     acts(&mut commander, CommanderAction::Restarted(1));
-    acts(&mut commander, CommanderAction::Foreign(1, 1));
+    acts(&mut commander, CommanderAction::Foreign(1, 2));
     acts(&mut commander, CommanderAction::Unknown(TAG));
     stores(&mut commander, &TOLD.repeat(3));
     rests(&mut commander);
+    assert_eq!((commander.below(), commander.highest()), (2, 2));
 }
 
 #[test]
