@@ -8,9 +8,9 @@ import * as sedgechisel from './index.mjs';
 import {
     Action, BoardStatus, Executor, LogFault, commandPacket, historyAfter, load, newRecord, rebuildOrder, restartOrder,
 } from './index.mjs';
-import { digitsOf, octetsOf } from './link.mjs';
+import { digitsOf } from './link.mjs';
+import { chances, crc, methodsInPython, refusedBy, textOf, worked as workedIn } from './testing.mjs';
 
-const textOf = (file) => readFileSync(new URL(`../${file}`, import.meta.url), 'utf8');
 const NONE = new Uint8Array(0), KINDS = ['NOTHING', 'WRITE_FIRST', 'WRITE_SECOND', 'EXECUTE', 'RESTART'];
 
 // The octets in c/tests/log.c, by their names there.
@@ -19,21 +19,11 @@ const inC = Object.fromEntries(
         .map(([, name, octets]) => [name, Uint8Array.from(octets.split(','), Number)]));
 const { BEFORE, STARTED, BEGUN, PASSED, NEW, BROUGHT, COMMAND, RESTART, REBUILD, SAYS, LOST, CHANGES, STARTS } = inC;
 
-// The worked octets of docs/PROFILE.md whose row begins with `what`; `k` selects one of several in a row.
-function worked(what, k = 0) {
-    const [, text] = textOf('docs/PROFILE.md').split('## Commands that are executed once');
-    const row = text.split('**Worked octets**')[1].split('\n').find((it) => it.startsWith(`| ${what}`));
-    return octetsOf([...row.split('|')[2].matchAll(/`([0-9A-F ]+)`/g)][k][1].replaceAll(' ', ''));
-}
+const worked = (what, k) => workedIn('Commands that are executed once', what, k), refused = refusedBy(LogFault);
 
 assert.throws(() => new Executor(NONE, NONE, 5), /load\(\)/);
 assert.throws(() => newRecord(), /load\(\)/);
 await load(readFileSync(process.argv[2]));
-
-function refused(call, number, name) {
-    assert.throws(call, (it) => it instanceof LogFault && it.number === number && it.name === name
-        && it.message === `${number} ${name}: ${it.meaning}`, `${call}`);
-}
 
 function acts(board, kind, octets = NONE, number = 0, content = NONE) {
     const action = board.next();
@@ -195,27 +185,6 @@ function wrongArguments() {
     assert.deepEqual(board.status(), told);
 }
 
-// CRC-32 of octets after others, bit by bit.
-function crc(octets, before) {
-    let it = ~before;
-    for (const octet of octets) {
-        it ^= octet;
-        for (let k = 0; k < 8; k++) it = it & 1 ? it >>> 1 ^ 0xedb88320 : it >>> 1;
-    }
-    return ~it >>> 0;
-}
-
-// Returns a generator of whole numbers below a limit, determined by a seed (mulberry32).
-function chances(seed) {
-    let state = seed;
-    return (most) => {
-        state = state + 0x6d2b79f5 | 0;
-        let it = Math.imul(state ^ state >>> 15, 1 | state);
-        it = it + Math.imul(it ^ it >>> 7, 61 | it) ^ it;
-        return Math.floor(((it ^ it >>> 14) >>> 0) / 4294967296 * most);
-    };
-}
-
 // A board that restarts at any moment, also in the middle of an action, and a ground that sends each number once or
 // several times, also out of turn and damaged.
 class Session {
@@ -320,8 +289,7 @@ function names() {
     const found = [...text.matchAll(/^(?:def|class) ([A-Za-z]\w*)/gm)].map(([, it]) => camel(it));
     assert.ok(found.length > 8, found.length);
     for (const it of found) assert.ok(it in sedgechisel || it.endsWith('Kind'), `there is no ${it}`);
-    const body = text.split('\nclass Executor(')[1].split(/\n(?=\S)/)[0];
-    const methods = [...body.matchAll(/^    def ([a-z]\w*)\(/gm)].map(([, it]) => camel(it));
+    const methods = methodsInPython(text, 'Executor');
     assert.deepEqual(methods, ['next', 'done', 'offer', 'obey', 'status']);
     for (const it of methods) assert.ok(it in Executor.prototype, `Executor has no ${it}`);
 }
