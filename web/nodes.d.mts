@@ -6,52 +6,6 @@
  * @returns {Promise<import('./sedgechisel.mjs').Calls>} the calls of the headers, which the classes use
  */
 export function load(source?: BufferSource | WebAssembly.Module | undefined): Promise<import('./sedgechisel.mjs').Calls>;
-declare const Handle_base: new () => import("./meanings.mjs").Closing;
-/** What the nodes share. A node is closed by `close`, at the end of a `using` block, or after nothing refers to it any
- * more. Every later call throws an Error. */
-export class Handle extends Handle_base {
-    /**
-     * @param {Partial<Config>} given
-     * @param {(config: sedge_config, raw: object) => number} opens
-     * @param {(raw: any) => void} closes
-     */
-    constructor(given: Partial<Config>, opens: (config: sedge_config, raw: object) => number, closes: (raw: any) => void);
-    /** The managed parameters. */
-    get config(): import("./meanings.mjs").Config;
-    /** Closes the node and releases its memory. A second call does nothing. */
-    close(): void;
-    /** Whether the node is closed. */
-    get closed(): boolean;
-    /**
-     * The answer of a call to the node, if it is not refused.
-     * @protected
-     * @param {(raw: any) => number} call
-     * @param {new (number: number) => Fault} [fault]
-     * @returns {number}
-     */
-    protected asked(call: (raw: any) => number, fault?: (new (number: number) => Fault) | undefined): number;
-    /**
-     * What a call writes into an object.
-     * @protected
-     * @template T
-     * @param {(raw: any, into: T) => number} call
-     * @returns {T}
-     */
-    protected read<T>(call: (raw: any, into: T) => number): T;
-    /**
-     * The octets that a call takes, after another call has returned their number; null if there are none.
-     * @protected
-     * @param {(raw: any, count: { value?: number }) => number} next
-     * @param {(raw: any, out: Uint8Array, count: { value?: number }) => number} take
-     * @returns {Uint8Array | null}
-     */
-    protected octets(next: (raw: any, count: {
-        value?: number | undefined;
-    }) => number, take: (raw: any, out: Uint8Array, count: {
-        value?: number | undefined;
-    }) => number): Uint8Array | null;
-    #private;
-}
 /** A node with a sender, which takes the directives of FOP-1 (232.1-B-2, 5.2.4). */
 export class Directing extends Handle {
     /**
@@ -110,7 +64,7 @@ export class Ground extends Directing {
      * was lost, it continues from there in S6: `resume` begins the next session, as after an alert.
      * @param {Partial<Config>} [config]
      * @param {Partial<KeptGround>} [kept]
-     * @throws {ConfigFault} if a parameter is out of range
+     * @throws {import('./values.mjs').ConfigFault} if a parameter is out of range
      * @throws {RangeError} for a record that no ground of this configuration can have written
      * @throws {LinkFault} 6 (Memory)
      */
@@ -329,7 +283,7 @@ export class Spacecraft extends Handle {
      * `keptNumbers` of before a restart on purpose; its receiver is OPEN with no flag, and no packet is on board.
      * @param {Partial<Config>} [config]
      * @param {Partial<KeptNumbers>} [kept]
-     * @throws {ConfigFault} if a parameter is out of range
+     * @throws {import('./values.mjs').ConfigFault} if a parameter is out of range
      * @throws {RangeError} for a number that a spacecraft cannot have
      * @throws {LinkFault} 6 (Memory)
      */
@@ -413,8 +367,6 @@ export type Mode = import('./meanings.mjs').Mode;
 export type Alert = import('./values.mjs').Alert;
 export type Heard = import('./values.mjs').Heard;
 export type Received = import('./values.mjs').Received;
-export type Fault = import('./values.mjs').Fault;
-export type sedge_config = import('./sedgechisel.mjs').sedge_config;
 /**
  * A packet and its MAP.
  */
@@ -444,5 +396,5 @@ export type KeptNumbers = {
     mcCount: number;
     vcCount: number;
 };
+import { Handle } from "./handles.mjs";
 import { Clcw } from "./values.mjs";
-export {};

@@ -1,12 +1,12 @@
 // The nodes for JavaScript, as classes: `await load()`, then `new Ground({ timer: 3 })` and `new Spacecraft()`. Names are
 // those of the package for Python in camel case; what a node refuses is thrown as a Fault. The comments of methods and
 // getters are those of c/include/sedgechisel_nodes.h, which web/bindings writes here.
-import { numberOf, objectOf, octetsOf } from './arguments.mjs';
-import { defaults } from './calls.mjs';
+import { numberOf, octetsOf } from './arguments.mjs';
+import { Handle, recordOf } from './handles.mjs';
 import { members } from './meanings.mjs';
 import { load as loadCalls, numbers as n } from './sedgechisel.mjs';
 import {
-    Clcw, ConfigFault, CopFault, LinkFault, TelemetryFault, alertOf, camel, clcwOf, countOf, heardOf, receivedOf, sedge, use,
+    Clcw, CopFault, LinkFault, TelemetryFault, alertOf, clcwOf, countOf, heardOf, receivedOf, sedge, use,
 } from './values.mjs';
 
 /** @typedef {import('./meanings.mjs').Config} Config */
@@ -15,8 +15,6 @@ import {
 /** @typedef {import('./values.mjs').Alert} Alert */
 /** @typedef {import('./values.mjs').Heard} Heard */
 /** @typedef {import('./values.mjs').Received} Received */
-/** @typedef {import('./values.mjs').Fault} Fault */
-/** @typedef {import('./sedgechisel.mjs').sedge_config} sedge_config */
 
 /**
  * A packet and its MAP.
@@ -56,136 +54,6 @@ async function moduleBeside() {
     // @ts-ignore (node has it, and TypeScript only with the types of node)
     const { readFile } = await import('node:fs/promises');
     return readFile(place);
-}
-
-/** @type {Record<string, string>} */
-const PARAMETERS = Object.fromEntries(Object.keys(defaults).map((it) => [camel(it), it]));
-
-/**
- * The parameters as the library has them.
- * @param {Partial<Config>} given
- * @returns {sedge_config}
- */
-function configOf(given) {
-    const config = /** @type {sedge_config & Record<string, any>} */ ({ ...defaults });
-    for (const [name, value] of Object.entries(objectOf('config', given, false))) {
-        if (!Object.hasOwn(PARAMETERS, name)) throw new TypeError(`config: there is no parameter ${name}`);
-        config[PARAMETERS[name]] = value;
-    }
-    return config;
-}
-
-/**
- * An object of only these fields.
- * @template {object} T
- * @param {string} name
- * @param {T} given
- * @param {string[]} fields
- * @returns {T}
- */
-function recordOf(name, given, fields) {
-    for (const it of Object.keys(objectOf(name, given, false))) {
-        if (!fields.includes(it)) throw new TypeError(`${name}: there is no ${it}`);
-    }
-    return given;
-}
-
-/** @type {FinalizationRegistry<() => void>} */
-const forgotten = new FinalizationRegistry((close) => close());
-
-/** @type {new () => import('./meanings.mjs').Closing} */
-const Closing = class {
-    [/** @type {any} */ (Symbol).dispose ?? Symbol('dispose')]() {
-        /** @type {any} */ (this).close();
-    }
-};
-
-/** What the nodes share. A node is closed by `close`, at the end of a `using` block, or after nothing refers to it any
- * more. Every later call throws an Error. */
-export class Handle extends Closing {
-    /** @type {any} */
-    #raw = {};
-    /** @type {Config} */
-    #config;
-    /** @type {(raw: any) => void} */
-    #closes;
-
-    /**
-     * @param {Partial<Config>} given
-     * @param {(config: sedge_config, raw: object) => number} opens
-     * @param {(raw: any) => void} closes
-     */
-    constructor(given, opens, closes) {
-        super();
-        const config = configOf(given), raw = this.#raw, answer = opens(config, raw);
-        this.#closes = closes;
-        if (answer === n.SEDGE_NODE_OUT_OF_RANGE) {
-            const number = sedge().sedge_config_fault(config);
-            if (number === 0) throw new RangeError('kept: no node of this configuration gives these numbers');
-            throw new ConfigFault(number);
-        }
-        if (answer !== 0) throw new LinkFault(answer);
-        this.#config = /** @type {any} */ (Object.freeze(
-            Object.fromEntries(Object.entries(config).map(([name, value]) => [camel(name), value]))));
-        forgotten.register(this, () => closes(raw), this);
-    }
-
-    /** The managed parameters. */
-    get config() {
-        return this.#config;
-    }
-
-    /** Closes the node and releases its memory. A second call does nothing. */
-    close() {
-        forgotten.unregister(this);
-        this.#closes(this.#raw);
-    }
-
-    /** Whether the node is closed. */
-    get closed() {
-        return Object.values(this.#raw).every((it) => it === 0);
-    }
-
-    /**
-     * The answer of a call to the node, if it is not refused.
-     * @protected
-     * @param {(raw: any) => number} call
-     * @param {new (number: number) => Fault} [fault]
-     * @returns {number}
-     */
-    asked(call, fault = LinkFault) {
-        const answer = call(this.#raw);
-        if (answer === n.SEDGE_NODE_NONE) throw new Error('the node is closed');
-        if (answer !== 0 && answer !== n.SEDGE_NODE_ABSENT) throw new fault(answer);
-        return answer;
-    }
-
-    /**
-     * What a call writes into an object.
-     * @protected
-     * @template T
-     * @param {(raw: any, into: T) => number} call
-     * @returns {T}
-     */
-    read(call) {
-        const into = /** @type {T} */ ({});
-        this.asked((raw) => call(raw, into));
-        return into;
-    }
-
-    /**
-     * The octets that a call takes, after another call has returned their number; null if there are none.
-     * @protected
-     * @param {(raw: any, count: { value?: number }) => number} next
-     * @param {(raw: any, out: Uint8Array, count: { value?: number }) => number} take
-     * @returns {Uint8Array | null}
-     */
-    octets(next, take) {
-        const { value = 0 } = this.read(next), out = new Uint8Array(value);
-        if (value === 0) return null;
-        this.asked((raw) => take(raw, out, {}));
-        return out;
-    }
 }
 
 /** A node with a sender, which takes the directives of FOP-1 (232.1-B-2, 5.2.4). */
@@ -293,7 +161,7 @@ export class Ground extends Directing {
      * was lost, it continues from there in S6: `resume` begins the next session, as after an alert.
      * @param {Partial<Config>} [config]
      * @param {Partial<KeptGround>} [kept]
-     * @throws {ConfigFault} if a parameter is out of range
+     * @throws {import('./values.mjs').ConfigFault} if a parameter is out of range
      * @throws {RangeError} for a record that no ground of this configuration can have written
      * @throws {LinkFault} 6 (Memory)
      */
@@ -679,7 +547,7 @@ export class Spacecraft extends Handle {
      * `keptNumbers` of before a restart on purpose; its receiver is OPEN with no flag, and no packet is on board.
      * @param {Partial<Config>} [config]
      * @param {Partial<KeptNumbers>} [kept]
-     * @throws {ConfigFault} if a parameter is out of range
+     * @throws {import('./values.mjs').ConfigFault} if a parameter is out of range
      * @throws {RangeError} for a number that a spacecraft cannot have
      * @throws {LinkFault} 6 (Memory)
      */
