@@ -9,7 +9,7 @@ from items import text_of
 from made import Refused
 
 # The modules that make up what the package exports by its own name; those of the other names are one each.
-CLASSES = ("handles", "nodes", "simulated", "executor", "values", "meanings")
+CLASSES = ("handles", "nodes", "simulated", "executor", "commanding", "values", "meanings")
 STATEMENT = re.compile(r"(?:export |declare )*(?P<kind>class|interface|type|function|const) (?P<name>\w+)")
 MEMBER = re.compile(r"(?:static |readonly |get |set )*(?P<name>[\w$]+|\[[^]]*\])\??(?P<call>(?:<[^>]*>)?\()?")
 HIDDEN = re.compile(r"#|protected |set |(?:import|export) ")

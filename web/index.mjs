@@ -4,8 +4,9 @@ export { Ground, Spacecraft, load } from './nodes.mjs';
 export {
     Action, BoardStatus, Executor, commandPacket, historyAfter, newRecord, rebuildOrder, restartOrder,
 } from './executor.mjs';
+export { Commander, CommanderAction } from './commanding.mjs';
 export { Link } from './simulated.mjs';
 export {
-    Alert, Clcw, ClcwFault, ConfigFault, CopFault, Fault, LinkFault, LogFault, SimFault, TcFault, TelemetryFault,
-    TmFault,
+    Alert, Clcw, ClcwFault, ConfigFault, CopFault, Fault, LedgerFault, LinkFault, LogFault, SimFault, TcFault,
+    TelemetryFault, TmFault,
 } from './values.mjs';

@@ -37,6 +37,23 @@ export interface Config {
     blocking: number;
 }
 
+/** The settings of a mission. */
+export interface Mission {
+    /** The longest time in ticks from sending a frame to the arrival of a CLCW that was made after it. */
+    roundTrip: number;
+    /** The APID of orders, 0 to 2,046. */
+    orders: number;
+    /** The APID of the board's status. */
+    status: number;
+    /** The MAP of orders, one that is open. */
+    map: number;
+    /**
+     * Whether sending stops after a restart of the board, or the loss of its record, until `goOn` is called. The first
+     * status of a board counts as a restart.
+     */
+    holds?: boolean;
+}
+
 export type State = 'S1' | 'S2' | 'S3' | 'S4' | 'S5' | 'S6';
 export type Mode = 'OPEN' | 'WAIT' | 'LOCKOUT';
 export type Verdict = 'ACCEPTED' | 'AHEAD' | 'NO_BUFFER' | 'BEHIND' | 'OUTSIDE' | 'DISCARDED';
@@ -47,6 +64,8 @@ export type Command = 'UNLOCK' | 'SET_VR';
 export type Begun = 'NOT' | 'WITHOUT_CHECK' | 'WITH_CHECK' | 'UNLOCK' | 'SET_VR';
 export type ActionKind = 'NOTHING' | 'WRITE_FIRST' | 'WRITE_SECOND' | 'EXECUTE' | 'RESTART';
 export type StatusKind = 'SAYS' | 'CHANGES' | 'STARTS' | 'LOST';
+export type CommanderActionKind = 'NOTHING' | 'STORE' | 'EXECUTED' | 'UNKNOWN' | 'RESTARTED' | 'RECORD_LOST' | 'FOREIGN' | 'ALERT' | 'TELEMETRY' | 'SEND';
+export type Progress = 'WAITS' | 'SENT' | 'ON_BOARD';
 
 declare global {
     // Of the library of TypeScript where it has `using`; empty where it does not.
@@ -67,5 +86,7 @@ export const members: {
     begun: Record<number, Begun>;
     log_action: Record<number, ActionKind>;
     log_status_kind: Record<number, StatusKind>;
+    commander_action_kind: Record<number, CommanderActionKind>;
+    progress: Record<number, Progress>;
 };
 export const ranges: Record<string, string>;

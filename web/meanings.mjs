@@ -9,6 +9,7 @@ export const meanings = {
     "map_fault": {"1": "not exactly one packet, or with blocking not one or more whole packets", "2": "a packet has more octets than max_packet"},
     "log_fault": {"1": "not exactly one packet of this layout, or not the layout's number of octets", "2": "the check does not hold, or a field has a value that the layout does not allow", "3": "the board has started, and a copy of its record is being repaired", "4": "the record is being written, a command is being executed, or a restart is due", "5": "the board has lost its record", "6": "a command with this number was executed or passed over", "7": "the command's number is above the next one", "8": "the order is for a different boot count", "9": "the order brings a record, but the board still has its own", "10": "the order brings a record for another loss", "11": "a field is out of range, or the data are too long", "12": "the output is too short for the packet"},
     "node_status": {"1": "the sender is in its state Initial (S6)", "2": "the MAP is not open", "3": "the octets are not command packets, or are more of them than one call takes", "4": "a packet has more octets than it may have", "5": "the queue has too few free slots for the units", "6": "out of memory", "10": "nothing is known of how far the session has come", "252": "the output is too short; nothing was taken", "253": "nothing is at this index, there is no CLCW in the octets, or a CLCW states nothing about the segments", "254": "a parameter is out of range", "255": "the handle holds no node, or there is no such directive or event"},
+    "ledger_fault": {"1": "not the number of octets of a status", "2": "the check of a status does not hold, or a field has a value that the layout does not allow", "3": "a MAP is not open, an APID or a sequence count is out of range, or the octets are too many for a packet", "4": "the packet would be longer than the configured maximum", "5": "all numbers have been given", "6": "the board has not lost its record", "7": "no boot count is left for an order that brings a record", "8": "something must be stored or reported first", "9": "out of memory", "252": "the output is too short; nothing was taken", "253": "this is not the next action, the command has a fate or was not given, or the octets are not a CLCW", "254": "a parameter or a setting is out of range"},
     "sim_fault": {"6": "out of memory", "7": "no frame is in transit in this direction", "8": "the receiver's decoder would accept the octets of the damaged frame"},
 };
 export const members = {
@@ -22,6 +23,8 @@ export const members = {
     "begun": {"0": "NOT", "1": "WITHOUT_CHECK", "2": "WITH_CHECK", "3": "UNLOCK", "4": "SET_VR"},
     "log_action": {"0": "NOTHING", "1": "WRITE_FIRST", "2": "WRITE_SECOND", "3": "EXECUTE", "4": "RESTART"},
     "log_status_kind": {"0": "SAYS", "1": "CHANGES", "2": "STARTS", "3": "LOST"},
+    "commander_action_kind": {"0": "NOTHING", "1": "STORE", "2": "EXECUTED", "3": "UNKNOWN", "4": "RESTARTED", "5": "RECORD_LOST", "6": "FOREIGN", "7": "ALERT", "8": "TELEMETRY", "9": "SEND"},
+    "progress": {"0": "WAITS", "1": "SENT", "2": "ON_BOARD"},
 };
 export const ranges = {
     "scid": "0 to 1,023",

@@ -1,6 +1,6 @@
 """Writes the comments of the headers as JSDoc, for web/bindings: those of calls and fields unchanged, and those of
-methods, getters, directives and events in the words of the classes of web/nodes.mjs, web/simulated.mjs and
-web/executor.mjs."""
+methods, getters, directives and events in the words of the classes of web/nodes.mjs, web/simulated.mjs,
+web/executor.mjs and web/commanding.mjs."""
 import re
 import textwrap
 
@@ -18,15 +18,17 @@ CLASSES = {
     "Spacecraft": ("spacecraft", ("spacecraft_reading",)),
     "Link": ("sim", ("sim_reading", "ground_reading", "spacecraft_reading")),
     "Executor": ("log", ()),
+    "Commander": ("commander", ("commander_reading",)),
 }
-FAULTS = {"NODE": "LinkFault", "TM": "TelemetryFault", "SIM": "SimFault", "COP": "CopFault"}
+FAULTS = {"NODE": "LinkFault", "TM": "TelemetryFault", "SIM": "SimFault", "COP": "CopFault", "LEDGER": "LedgerFault"}
 # A getter that has another name than its field.
-RENAMED = {("Spacecraft", "mode"): "state"}
+RENAMED = {("Spacecraft", "mode"): "state", ("Commander", "isWorth"): "worth"}
 # What the note of a field says, and what a getter says, which stands by itself.
 FIELD_SAID = (
     (r"^([Tt]he (?:.*? state|state of .*?)), of sedge_\w+", r"\1"),
     (r"^[Tt]he session (?=began|had)", "whether the session "),
     (r"^[Aa] CLCW (?=has taken)", "whether a CLCW "),
+    (r"^1 if (.*?)[,;] otherwise 0\b", r"whether \1"),
 )
 # What C says, and what a class says: octets and numbers are returned, a fault is thrown, and null is nothing.
 SAID = (
@@ -40,19 +42,27 @@ SAID = (
     (r"Returns 0, or else drops the packet, changes (?:and writes )?nothing, and [^:]* of sedge_log_fault:",
      "Throws LogFault, and changes nothing, for any other packet, which is dropped:"),
     (r"SEDGE_LOG_(\w+)", r"\1"),
+    (r"as sedge_ground_(telemetry|clcw) does\.", r"as `Ground.\1` does."),
+    (r", of sedge_progress,", ""),
+    (r"sedge_commander_take_telemetry", "`next`"),
+    (r" A frame is written to the beginning of out, [^.]*\.", ""),
+    (r"the first that applies of SEDGE_LEDGER_ROOM(?: \([^)]*\))? and ", ""),
+    (r", and their number(?=;)", ""),
+    (r" If worth of [^.]* is room enough\.", ""),
+    (r", SEDGE_LEDGER_MEMORY and SEDGE_LEDGER_ROOM", " and SEDGE_LEDGER_MEMORY"),
     (r"(\w+), (the \w+), and the number of its octets", r"\1 and \2"),
     (r", and the number of its octets, which is frame_length", ": `frameLength` octets"),
     (r"it and the number of its octets, or 0 octets if", "it, or null if"),
     (r"; or writes only 0 to count if", ", or null if"),
     (r", of sedge_alert, SEDGE_NO_ALERT for none", ", or null for none"),
-    (r"\b(W|w)rites\b", lambda it: {"W": "Returns", "w": "returns"}[it[1]]),
+    (r"(?<!commander )\b(W|w)rites\b", lambda it: {"W": "Returns", "w": "returns"}[it[1]]),
     (r" or SEDGE_NODE_ROOM(?=\.)", ""),
     (r"returns SEDGE_NODE_NOT_KNOWN \(10\)", "throws LinkFault 10 (NotKnown)"),
-    (r"Returns 0, or (?=[^.]*(?:SEDGE_(?:NODE_MEMORY|TM_)|of sedge_node_status))", "Throws "),
+    (r"Returns 0,? or (?=[^.]*(?:SEDGE_(?:NODE_MEMORY|LEDGER_MEMORY|TM_)|of sedge_node_status))", "Throws "),
     (r"(\d to \d) of sedge_node_status", r"LinkFault \1"),
     (r" ?Returns 0\.", ""),
 )
-ABSENT = r"Returns 0, or SEDGE_NODE_ABSENT(?= if| where)"
+ABSENT = r"Returns 0, or SEDGE_(?:NODE|LEDGER)_ABSENT(?= if| where)"
 # What the note of an event says, and what a method says; FRAME is the first frame in transit.
 EVENT_SAID = (
     (r"^it is lost", "FRAME is lost"),
@@ -97,10 +107,10 @@ def translated(text, known, is_nullable, found):
     """A comment in the words of a class; it says null of what may be absent, and nothing where a method throws then."""
     text = replaced(text.replace("`", ""), SAID, found)
     text = re.sub(ABSENT, "Returns null", text) if is_nullable else re.sub(rf" ?{ABSENT}[^.]*\.", "", text)
-    text = re.sub(r"SEDGE_(NODE|TM|SIM|COP)_(\w+)", numbered(known), text)
+    text = re.sub(r"SEDGE_(NODE|TM|SIM|COP|LEDGER)_(\w+)", numbered(known), text)
     text = re.sub(
         r"sedge_(ground|spacecraft)_open_kept\b", lambda it: f"`new {it[1].capitalize()}(config, kept)`", text)
-    text = re.sub(r"sedge_(?:ground|spacecraft|sim|log)_(\w+)", lambda it: f"`{js(it[1])}`", text)
+    text = re.sub(r"sedge_(?:ground|spacecraft|sim|log|commander)_(\w+)", lambda it: f"`{js(it[1])}`", text)
     return " ".join(text.split())
 
 

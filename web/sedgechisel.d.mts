@@ -386,6 +386,53 @@ export interface sedge_spacecraft_reading {
     vc_count: number;
 }
 
+export interface sedge_commander {
+    node: number;
+}
+
+export interface sedge_mission {
+    /** The longest time in ticks from sending a frame to the arrival of a CLCW that was made after it. */
+    round_trip: number;
+    /** The APID of orders, 0 to 2,046. */
+    orders: number;
+    /** The APID of the board's status. */
+    status: number;
+    /** The MAP of orders, one that is open. */
+    map: number;
+    /**
+     * 1 if sending stops after a restart of the board, or the loss of its record, until `sedge_commander_go_on` is
+     * called, otherwise 0. The first status of a board counts as a restart.
+     */
+    holds: number;
+}
+
+export interface sedge_commander_action {
+    /** EXECUTED, UNKNOWN: the tag of the command. */
+    tag: bigint;
+    /** RESTARTED: the new boot count. RECORD_LOST: the mark of the loss. FOREIGN: the first number. */
+    number: number;
+    /** FOREIGN: the last number. */
+    last: number;
+    /** STORE: the number of octets to be appended. SEND: the length of the frame in octets. */
+    count: number;
+    /** Of `sedge_commander_action_kind`. */
+    kind: number;
+    /** ALERT: of `sedge_alert`. */
+    alert: number;
+}
+
+export interface sedge_commander_reading {
+    /** The number up to which every command has its fate. */
+    below: number;
+    /** The highest number that was given, or that a command of another ground had on board. */
+    highest: number;
+    /**
+     * 1 if a fresh store would have less than half as many octets, and nothing is left to be stored or reported;
+     * otherwise 0.
+     */
+    worth: number;
+}
+
 export interface sedge_sim {
     link: number;
 }
@@ -993,6 +1040,115 @@ export interface Calls {
      * `SEDGE_NODE_OUT_OF_RANGE` (also if `farm_b` is above 3) or `SEDGE_NODE_MEMORY`.
      */
     sedge_spacecraft_open_kept(spacecraft: Partial<sedge_spacecraft>, config: Partial<sedge_config>, kept: Partial<sedge_spacecraft_reading>): number;
+    /** Closes the commander, if there is one; the handle then holds none. */
+    sedge_commander_close(commander: Partial<sedge_commander>): void;
+    /**
+     * Opens a commander, with a ground in S6, from the octets of its store; a new store has none. The commander
+     * replaces any that the handle holds, as `sedge_ground_open` does. Writes how many octets of the store are good:
+     * truncate the store to this length before you append to it. Returns 0, `SEDGE_LEDGER_OUT_OF_RANGE` (a parameter,
+     * or `holds`), or the first that applies of `SEDGE_LEDGER_FIELD_RANGE` (the MAP of orders is not open, or their
+     * APID is above 2,046), `SEDGE_LEDGER_TOO_LONG` (`part` or `max_packet` is below 23) and `SEDGE_LEDGER_MEMORY`.
+     */
+    sedge_commander_open(commander: Partial<sedge_commander>, config: Partial<sedge_config>, mission: Partial<sedge_mission>, store: Uint8Array, good: Partial<Box>): number;
+    /**
+     * Gives the commander a command, after all others, and writes its number. The commander writes the command packet;
+     * `apid` and `sequence` are its APID and its sequence count, `content` the mission's octets, and `tag` is the
+     * caller's own. Returns 0, or the first that applies of `SEDGE_LEDGER_FIELD_RANGE` (a MAP that is not open, an APID
+     * above 2,046, a sequence count above 16,383, or more than 65,528 octets), `SEDGE_LEDGER_TOO_LONG`,
+     * `SEDGE_LEDGER_NO_NUMBER` and `SEDGE_LEDGER_MEMORY`.
+     */
+    sedge_commander_command(commander: Partial<sedge_commander>, tag: bigint, map: number, apid: number, sequence: number, content: Uint8Array, number: Partial<Box>): number;
+    /**
+     * Takes octets that came from the board, exactly one telemetry frame, and writes what they are, as
+     * `sedge_ground_telemetry` does. `sedge_commander_take_telemetry` then takes its packets. Returns 0 or
+     * `SEDGE_LEDGER_MEMORY`.
+     */
+    sedge_commander_telemetry(commander: Partial<sedge_commander>, octets: Uint8Array, heard: Partial<sedge_heard>): number;
+    /**
+     * Takes a CLCW that came by itself, and writes what becomes of it, as `sedge_ground_clcw` does. Returns 0, or
+     * `SEDGE_LEDGER_ABSENT` if the octets are not four.
+     */
+    sedge_commander_clcw(commander: Partial<sedge_commander>, octets: Uint8Array, heard: Partial<sedge_heard>): number;
+    /**
+     * Takes the octets of a status that came without a packet. (`sedge_commander_take_telemetry` takes those in
+     * telemetry by itself.) A status that contains nothing new changes nothing. Returns 0, or the first that applies of
+     * `SEDGE_LEDGER_LAYOUT` (not 27 octets), `SEDGE_LEDGER_CHECK` and `SEDGE_LEDGER_MEMORY`.
+     */
+    sedge_commander_status(commander: Partial<sedge_commander>, octets: Uint8Array): number;
+    /** Counts a tick of the clock. An alert is the next action of `sedge_commander_next`. Returns 0. */
+    sedge_commander_tick(commander: Partial<sedge_commander>): number;
+    /**
+     * Writes the program's next action. The program completes it before it calls this again. A frame is written to the
+     * beginning of `out`, whose other octets stay. Returns 0, or the first that applies of `SEDGE_LEDGER_ROOM` (the
+     * buffer is shorter than 1,024 octets) and `SEDGE_LEDGER_MEMORY`.
+     */
+    sedge_commander_next(commander: Partial<sedge_commander>, action: Partial<sedge_commander_action>, out: Uint8Array): number;
+    /**
+     * Writes the octets that must be appended to the store, and their number; 0 octets unless `sedge_commander_next`
+     * writes STORE, with this number. Returns 0 or `SEDGE_LEDGER_ROOM`.
+     */
+    sedge_commander_unstored(commander: Partial<sedge_commander>, out: Uint8Array, count: Partial<Box>): number;
+    /**
+     * Records that all octets of `sedge_commander_unstored` are in the store; `count` is their number. Changes nothing
+     * if it is another number. Returns 0.
+     */
+    sedge_commander_stored(commander: Partial<sedge_commander>, count: number): number;
+    /**
+     * Records that this action of `sedge_commander_next`, EXECUTED, UNKNOWN, RESTARTED, RECORD_LOST or FOREIGN, was
+     * reported to the user. After RESTARTED and RECORD_LOST the session ends. Returns 0, or the first that applies of
+     * `SEDGE_LEDGER_ABSENT` (it is not the next action) and `SEDGE_LEDGER_MEMORY`.
+     */
+    sedge_commander_told(commander: Partial<sedge_commander>, action: Partial<sedge_commander_action>): number;
+    /** Writes the length in octets of the oldest telemetry packet, 7 to 65,542, or 0 if none waits. Returns 0. */
+    sedge_commander_next_telemetry(commander: Partial<sedge_commander>, count: Partial<Box>): number;
+    /**
+     * Takes the oldest telemetry packet. Writes it and the number of its octets, or 0 octets if none waits. If it has
+     * the APID of the board's status and 27 octets of data, the commander also takes it as a status. Returns 0, or the
+     * first that applies of `SEDGE_LEDGER_ROOM` and `SEDGE_LEDGER_MEMORY`.
+     */
+    sedge_commander_take_telemetry(commander: Partial<sedge_commander>, out: Uint8Array, count: Partial<Box>): number;
+    /**
+     * Writes the progress of the command with this number, of `sedge_progress`, by COP-1 in the current session or, if
+     * none is open, the last one. Only EXECUTED of `sedge_commander_next` states that it was executed. Returns 0, or
+     * `SEDGE_LEDGER_ABSENT` if the command has a fate or was not given.
+     */
+    sedge_commander_progress(commander: Partial<sedge_commander>, number: number, progress: Partial<Box>): number;
+    /**
+     * Stops the sending of commands until `sedge_commander_go_on`. Frames that were sent may be retransmitted. Returns
+     * 0.
+     */
+    sedge_commander_pause(commander: Partial<sedge_commander>): number;
+    /** Resumes the sending of commands. Returns 0. */
+    sedge_commander_go_on(commander: Partial<sedge_commander>): number;
+    /** Has the order to restart sent to the board, until the board has another boot count. Returns 0. */
+    sedge_commander_restart_board(commander: Partial<sedge_commander>): number;
+    /**
+     * Makes the order that brings a record to a board that has lost its own; an operator decides this. Nothing is known
+     * then of the commands that may have been sent and have no fate. Returns 0, or the first that applies of
+     * `SEDGE_LEDGER_NOT_LOST`, `SEDGE_LEDGER_NO_BOOT` and `SEDGE_LEDGER_MEMORY`.
+     */
+    sedge_commander_rebuild(commander: Partial<sedge_commander>): number;
+    /**
+     * Reads the commander: which commands have no fate yet, and whether a fresh store is worth its writing. The
+     * commander does not change. Returns 0.
+     */
+    sedge_commander_read(commander: Partial<sedge_commander>, read: Partial<sedge_commander_reading>): number;
+    /** Reads the commander's ground, as `sedge_ground_read` does. Returns 0. */
+    sedge_commander_read_ground(commander: Partial<sedge_commander>, read: Partial<sedge_ground_reading>): number;
+    /**
+     * Writes the octets of a fresh store of the same commands, and their number; the commander does not change. Write
+     * them to a new file, replace the store with it, and call `sedge_commander_renewed`. If `worth` of
+     * `sedge_commander_read` is 1, half the length of the present store is room enough. Returns 0, or the first that
+     * applies of `SEDGE_LEDGER_OWING` (something must be stored or reported first), `SEDGE_LEDGER_MEMORY` and
+     * `SEDGE_LEDGER_ROOM`.
+     */
+    sedge_commander_fresh(commander: Partial<sedge_commander>, out: Uint8Array, count: Partial<Box>): number;
+    /**
+     * Records that the store now has this many octets, which begin with those of `sedge_commander_fresh`. Returns 0.
+     */
+    sedge_commander_renewed(commander: Partial<sedge_commander>, count: number): number;
+    /** Returns the name of a `sedge_ledger_fault` of 1 to 9; "?" for another number. */
+    sedge_ledger_fault_name(number: number): string;
     /**
      * Opens a link with two new nodes, which replaces any that the handle holds, as `sedge_ground_open` does. Returns
      * 0, `SEDGE_NODE_OUT_OF_RANGE` or `SEDGE_NODE_MEMORY`.
@@ -1247,6 +1403,31 @@ export const numbers: {
     readonly SEDGE_RECEIVED_AD: 3;
     readonly SEDGE_RECEIVED_BD: 4;
     readonly SEDGE_RECEIVED_BC: 5;
+    readonly SEDGE_LEDGER_LAYOUT: 1;
+    readonly SEDGE_LEDGER_CHECK: 2;
+    readonly SEDGE_LEDGER_FIELD_RANGE: 3;
+    readonly SEDGE_LEDGER_TOO_LONG: 4;
+    readonly SEDGE_LEDGER_NO_NUMBER: 5;
+    readonly SEDGE_LEDGER_NOT_LOST: 6;
+    readonly SEDGE_LEDGER_NO_BOOT: 7;
+    readonly SEDGE_LEDGER_OWING: 8;
+    readonly SEDGE_LEDGER_MEMORY: 9;
+    readonly SEDGE_LEDGER_ROOM: 252;
+    readonly SEDGE_LEDGER_ABSENT: 253;
+    readonly SEDGE_LEDGER_OUT_OF_RANGE: 254;
+    readonly SEDGE_COMMANDER_NOTHING: 0;
+    readonly SEDGE_COMMANDER_STORE: 1;
+    readonly SEDGE_COMMANDER_EXECUTED: 2;
+    readonly SEDGE_COMMANDER_UNKNOWN: 3;
+    readonly SEDGE_COMMANDER_RESTARTED: 4;
+    readonly SEDGE_COMMANDER_RECORD_LOST: 5;
+    readonly SEDGE_COMMANDER_FOREIGN: 6;
+    readonly SEDGE_COMMANDER_ALERT: 7;
+    readonly SEDGE_COMMANDER_TELEMETRY: 8;
+    readonly SEDGE_COMMANDER_SEND: 9;
+    readonly SEDGE_PROGRESS_WAITS: 0;
+    readonly SEDGE_PROGRESS_SENT: 1;
+    readonly SEDGE_PROGRESS_ON_BOARD: 2;
     readonly SEDGE_SIM_MEMORY: 6;
     readonly SEDGE_SIM_NOTHING_IN_TRANSIT: 7;
     readonly SEDGE_SIM_NOT_DETECTABLE: 8;

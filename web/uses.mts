@@ -1,8 +1,8 @@
 // What TypeScript has to accept of the package, and what it has to refuse; web/package_check compiles it, and does not
 // run it.
 import {
-    Alert, BoardStatus, Clcw, ConfigFault, Executor, Fault, Ground, Link, LinkFault, LogFault, Spacecraft, commandPacket,
-    historyAfter, load, newRecord, numbers, rebuildOrder,
+    Alert, BoardStatus, Clcw, Commander, CommanderAction, ConfigFault, Executor, Fault, Ground, LedgerFault, Link,
+    LinkFault, LogFault, Spacecraft, commandPacket, historyAfter, load, newRecord, numbers, rebuildOrder,
 } from 'sedgechisel';
 import { load as loadCalls } from 'sedgechisel/calls';
 import { eventOf, scriptOf } from 'sedgechisel/script';
@@ -42,7 +42,22 @@ export function restarts(board: Executor): bigint {
     return isKnown ? known : BigInt(new LogFault(5).number);
 }
 
-export function misuses(ground: Ground, board: Executor): void {
+export function commands(store: Uint8Array): bigint {
+    const ground = new Commander({ roundTrip: 2, orders: 1, status: 2, map: 0, holds: true }, store, { timer: 3 });
+    const number: number = ground.command(7n, 3, 5, 0, store), again: number = ground.command(7, 3, 5, 0, store);
+    const action: CommanderAction = ground.next(), alert: Alert | null = action.alert, tag: bigint = action.tag;
+    const kind: 'NOTHING' | 'STORE' | 'EXECUTED' | 'UNKNOWN' | 'RESTARTED' | 'RECORD_LOST' | 'FOREIGN' | 'ALERT'
+        | 'TELEMETRY' | 'SEND' = action.kind;
+    ground.done(action);
+    const progress: 'WAITS' | 'SENT' | 'ON_BOARD' | null = ground.progress(number), isWorth: boolean = ground.isWorth;
+    const octets: Uint8Array = kind === 'STORE' ? action.octets : ground.fresh(), fault: Fault = new LedgerFault(8);
+    const heard: Alert | null = ground.telemetry(octets).alert, taken: Uint8Array | null = ground.takeTelemetry();
+    const { good, below, highest, config, closed } = ground, { state }: { state: string } = ground.ground;
+    const said = [alert, progress, isWorth, heard, taken, good, below, highest, state, config, closed, fault];
+    return tag + BigInt(again + said.length);
+}
+
+export function misuses(ground: Ground, board: Executor, commander: Commander): void {
     // @ts-expect-error: there is no such parameter
     new Ground({ windw: 4 });
     // @ts-expect-error: a MAP is a number
@@ -61,6 +76,12 @@ export function misuses(ground: Ground, board: Executor): void {
     if (board.next().kind === 'WRITE') return;
     // @ts-expect-error: an action stays as it is
     board.next().number = 4;
+    // @ts-expect-error: a mission has an APID of orders
+    new Commander({ roundTrip: 2, status: 2, map: 0 });
+    // @ts-expect-error: there is no such kind
+    if (commander.next().kind === 'WRITE') return;
+    // @ts-expect-error: an action is one that `next` returned
+    commander.done({ kind: 'SEND' });
     // @ts-expect-error: it is not for programs
     ground.asked(() => 0);
 }

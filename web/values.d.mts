@@ -108,6 +108,11 @@ export class LogFault extends Fault {
     /** @param {number} number */
     constructor(number: number);
 }
+/** Why a commander refuses a call. */
+export class LedgerFault extends Fault {
+    /** @param {number} number */
+    constructor(number: number);
+}
 /** The first managed parameter that is out of range: its number, its name, and its range. */
 export class ConfigFault extends Fault {
     /** @param {number} number */

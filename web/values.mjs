@@ -126,6 +126,14 @@ export class LogFault extends Fault {
     }
 }
 
+/** Why a commander refuses a call. */
+export class LedgerFault extends Fault {
+    /** @param {number} number */
+    constructor(number) {
+        super(number, sedge().sedge_ledger_fault_name(number), meanings.ledger_fault[number] ?? '?');
+    }
+}
+
 /** The first managed parameter that is out of range: its number, its name, and its range. */
 export class ConfigFault extends Fault {
     /** @param {number} number */
