@@ -7,8 +7,8 @@ import { setTimeout } from 'node:timers/promises';
 import { setFlagsFromString } from 'node:v8';
 import { runInNewContext } from 'node:vm';
 import {
-    Clcw, ClcwFault, ConfigFault, CopFault, Ground, Link, LinkFault, LogFault, SimFault, Spacecraft, TcFault, TelemetryFault,
-    TmFault, load,
+    Clcw, ClcwFault, ConfigFault, CopFault, Ground, LedgerFault, Link, LinkFault, LogFault, SimFault, Spacecraft, TcFault,
+    TelemetryFault, TmFault, load,
 } from './index.mjs';
 import { digitsOf, octetsOf } from './link.mjs';
 
@@ -253,7 +253,7 @@ function texts() {
     const header = readFileSync(new URL('../c/include/sedgechisel_faults.h', import.meta.url), 'utf8');
     const kinds = {
         clcw_fault: ClcwFault, cop_fault: CopFault, tc_fault: TcFault, tm_fault: TmFault, link_fault: LinkFault,
-        sim_fault: SimFault, log_fault: LogFault, parameter: ConfigFault,
+        sim_fault: SimFault, log_fault: LogFault, ledger_fault: LedgerFault, parameter: ConfigFault,
     };
     for (const [call, kind] of Object.entries(kinds)) {
         const body = header.split(`*sedge_${call}_text(`)[1].split('\n}')[0];
@@ -282,7 +282,7 @@ function names() {
 
 // The comments of the classes use the words of JavaScript. The only C name in them is that of a call that no class has.
 function comments() {
-    for (const file of ['nodes', 'simulated', 'executor', 'values']) {
+    for (const file of ['handles', 'nodes', 'simulated', 'executor', 'commanding', 'values']) {
         const text = readFileSync(new URL(`${file}.mjs`, import.meta.url), 'utf8').replace(/import\('[^']*'\)\.\w+/g, '');
         for (const [comment] of text.matchAll(/\/\*\*[^]*?\*\//g)) {
             assert.ok(!/sedge_(?!config|map_count)|[;,:] writes |\* Writes |Returns 0[,.]/i.test(comment), comment);
