@@ -6,8 +6,8 @@ import { octetsOf } from './link.mjs';
 
 export const textOf = (file) => readFileSync(new URL(`../${file}`, import.meta.url), 'utf8');
 
-// Returns the worked octets in a section of docs/PROFILE.md whose row begins with `what`; `k` selects one of several in a
-// row. The row may have octets that repeat, such as 24 times `00`.
+// Returns the worked octets in a section of docs/PROFILE.md whose row begins with `what`; `k` selects one of several in
+// a row. The row may have octets that repeat, such as 24 times `00`.
 export function worked(section, what, k = 0) {
     const [, text] = textOf('docs/PROFILE.md').split(`\n## ${section}\n`);
     const row = text.split('**Worked octets**')[1].split('\n').find((it) => it.startsWith(`| ${what}`));
