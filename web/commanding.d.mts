@@ -6,7 +6,7 @@ export class CommanderAction {
      * @param {Uint8Array} octets
      * @param {Given} given the action as the library writes it
      */
-    constructor(kind: CommanderActionKind, octets: Uint8Array, { tag, number, last, alert }: Given);
+    constructor(kind: CommanderActionKind, octets: Uint8Array, given: Given);
     /**
      * What the program does: append `octets` to the store (STORE); report that the command with this `tag` was
      * executed, whole (EXECUTED), that nothing is known of it (UNKNOWN), that the board has restarted (RESTARTED) or

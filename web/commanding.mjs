@@ -52,7 +52,8 @@ export class CommanderAction {
      * @param {Uint8Array} octets
      * @param {Given} given the action as the library writes it
      */
-    constructor(kind, octets, { tag = 0n, number = 0, last = 0, alert = 0 }) {
+    constructor(kind, octets, given) {
+        const { tag = 0n, number = 0, last = 0, alert = 0 } = given;
         /**
          * What the program does: append `octets` to the store (STORE); report that the command with this `tag` was
          * executed, whole (EXECUTED), that nothing is known of it (UNKNOWN), that the board has restarted (RESTARTED) or
@@ -253,9 +254,10 @@ export class Commander extends Handle {
      * @param {number} count
      */
     #store(count) {
-        this.#appended += count;
-        this.asked((raw) => sedge().sedge_commander_stored(raw, this.#appended));
-        if (this.#fits((raw) => sedge().sedge_commander_unstored(raw, NONE, {}))) this.#appended = 0;
+        const appended = this.#appended + count, out = new Uint8Array(appended);
+        const isAll = this.#fits((raw) => sedge().sedge_commander_unstored(raw, out, {}));
+        if (isAll) this.asked((raw) => sedge().sedge_commander_stored(raw, appended));
+        this.#appended = isAll ? 0 : appended;
     }
 
     /**
