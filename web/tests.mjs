@@ -1,5 +1,6 @@
-// Tests the module for JavaScript: `node tests.mjs MODULE`. Covers codecs, both machines, two nodes, the release of
-// memory, and wrong arguments. Exits with 0 if all is as expected, and otherwise with an Error that states what is not.
+// Tests the module for JavaScript: `node tests.mjs MODULE`. Covers codecs, both machines, two nodes, a commander, the
+// release of memory, and wrong arguments. Exits with 0 if all is as expected, and otherwise with an Error that states
+// what is not.
 import assert from 'node:assert/strict';
 import { readFileSync } from 'node:fs';
 import { load, numbers as n } from './sedgechisel.mjs';
@@ -165,14 +166,69 @@ function linked() {
     assert.equal(sedge.sedge_sim_spacecraft_read(sim, board), n.SEDGE_NODE_NONE);
 }
 
+const NONE = new Uint8Array(0), MISSION = { round_trip: 2, orders: 1, status: 2, map: 0, holds: 0 };
+
+// A commander with a command, and what its calls answer that the class Commander does not pass on.
+function commander() {
+    const handle = {}, good = {}, number = {}, progress = {}, action = {}, count = {}, out = new Uint8Array(1024);
+    assert.equal(sedge.sedge_commander_tick(handle), n.SEDGE_NODE_NONE);
+    const opens = (own) => sedge.sedge_commander_open(handle, DEFAULTS, { ...MISSION, ...own }, NONE, good);
+    assert.deepEqual([opens({ holds: 2 }), opens({ orders: 2047 }), opens({}), good.value],
+        [n.SEDGE_LEDGER_OUT_OF_RANGE, n.SEDGE_LEDGER_FIELD_RANGE, 0, 0]);
+    const answer = sedge.sedge_commander_command(handle, 9n, 3, 5, 44, Uint8Array.of(1, 2, 3), number);
+    assert.deepEqual([answer, number.value], [0, 1]);
+    assert.equal(sedge.sedge_commander_next(handle, action, out.subarray(1)), n.SEDGE_LEDGER_ROOM);
+    for (const stored of [34, 36, 35]) {
+        assert.equal(sedge.sedge_commander_next(handle, action, out), 0);
+        assert.deepEqual([action.kind, action.count], [n.SEDGE_COMMANDER_STORE, 35]);
+        assert.equal(sedge.sedge_commander_unstored(handle, out.subarray(0, 34), count), n.SEDGE_LEDGER_ROOM);
+        assert.equal(sedge.sedge_commander_unstored(handle, out, count), 0);
+        assert.deepEqual([count.value, sedge.sedge_commander_stored(handle, stored)], [35, 0]);
+    }
+    assert.equal(sedge.sedge_commander_next(handle, action, out), 0);
+    assert.equal(action.kind, n.SEDGE_COMMANDER_NOTHING);
+    assert.deepEqual([sedge.sedge_commander_unstored(handle, NONE, count), count.value], [0, 0]);
+    for (const kind of [n.SEDGE_COMMANDER_NOTHING, n.SEDGE_COMMANDER_EXECUTED, 10]) {
+        assert.equal(sedge.sedge_commander_told(handle, { kind, tag: 9n }), n.SEDGE_LEDGER_ABSENT);
+    }
+    const of = [0, 1, 2].map((it) => sedge.sedge_commander_progress(handle, it, progress));
+    assert.deepEqual([of, progress.value], [[n.SEDGE_LEDGER_ABSENT, 0, n.SEDGE_LEDGER_ABSENT], n.SEDGE_PROGRESS_WAITS]);
+    assert.equal(sedge.sedge_commander_clcw(handle, out.subarray(0, 3), {}), n.SEDGE_LEDGER_ABSENT);
+    const fresh = [91, 92].map((room) => sedge.sedge_commander_fresh(handle, out.subarray(0, room), count));
+    assert.deepEqual([fresh, count.value], [[n.SEDGE_LEDGER_ROOM, 0], 92]);
+    telemetryOf(handle, out);
+    sedge.sedge_commander_close(handle);
+    assert.equal(sedge.sedge_commander_read(handle, {}), n.SEDGE_NODE_NONE);
+    const names = [0, 1, 9, 10, 252].map((it) => sedge.sedge_ledger_fault_name(it));
+    assert.deepEqual(names, ['?', 'Layout', 'Memory', '?', '?']);
+}
+
+// A commander takes a packet of telemetry.
+function telemetryOf(handle, out) {
+    const spacecraft = {}, count = {}, heard = {}, own = octetsOf('0805C0000000CC');
+    assert.equal(sedge.sedge_spacecraft_open(spacecraft, DEFAULTS), n.SEDGE_NODE_OK);
+    assert.equal(sedge.sedge_spacecraft_telemetry(spacecraft, own), 0);
+    assert.equal(sedge.sedge_spacecraft_telemetry_frame(spacecraft, out, count), n.SEDGE_NODE_OK);
+    assert.equal(sedge.sedge_commander_telemetry(handle, out.subarray(0, count.value), heard), 0);
+    assert.deepEqual([heard.kind, heard.packets], [n.SEDGE_HEARD_FRAME, 1]);
+    assert.deepEqual([sedge.sedge_commander_next_telemetry(handle, count), count.value], [0, 7]);
+    assert.equal(sedge.sedge_commander_take_telemetry(handle, out.subarray(0, 6), count), n.SEDGE_LEDGER_ROOM);
+    assert.equal(sedge.sedge_commander_take_telemetry(handle, out, count), 0);
+    assert.equal(digitsOf(out.subarray(0, count.value)), digitsOf(own));
+    assert.deepEqual([sedge.sedge_commander_take_telemetry(handle, out, count), count.value], [0, 0]);
+    sedge.sedge_spacecraft_close(spacecraft);
+}
+
 // Opening and closing nodes many times takes no more memory than once.
 function memory() {
     const config = { ...DEFAULTS, max_packet: 65542, ready_slots: 64 };
     for (let k = 0; k < 2000; k++) {
-        const sim = {};
+        const sim = {}, handle = {};
         assert.equal(sedge.sedge_sim_open(sim, config), n.SEDGE_NODE_OK);
         sedge.sedge_sim_close(sim);
-        assert.equal(sim.link, 0);
+        assert.equal(sedge.sedge_commander_open(handle, config, MISSION, NONE, {}), 0);
+        sedge.sedge_commander_close(handle);
+        assert.deepEqual([sim.link, handle.node], [0, 0]);
     }
 }
 
@@ -188,5 +244,8 @@ function lines() {
     assert.equal(scriptOf('config maps 18446744073709551615\n').config.maps, DEFAULTS.maps);
 }
 
-for (const test of [codecs, packetsThatAreMissing, commandsOverRestarts, machines, alerts, nodes, linked, memory, lines]) test();
+const TESTS = [
+    codecs, packetsThatAreMissing, commandsOverRestarts, machines, alerts, nodes, linked, commander, memory, lines,
+];
+for (const test of TESTS) test();
 console.log('all as wanted');
