@@ -62,7 +62,7 @@ def alerts(it):
     assert (last.tick(), last.tick(), last.tick()) == (it.Alert.NONE, it.Alert.TIMER, it.Alert.NONE)
     words = ["", "Lockout", "NnR", "Clcw", "Synch", "Limit", "Timer", "Terminated"]
     assert [one.word for one in it.Alert] == words
-    # Those of a report, but for the one that asks to repeat: promise 4 of README.
+    # Those of a report, but for the one that asks to repeat: promise 5 of README.
     broken = [one.name for one in it.Alert if one.shows_a_broken_condition]
     assert broken == ["LOCKOUT", "NNR", "CLCW", "SYNCH"] and it.Alert.NONE.advice == ""
     for one in [*it.Alert][1:]:
