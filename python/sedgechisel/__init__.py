@@ -7,8 +7,8 @@
   in telemetry frames (`TmBuilder`, `TmExtractor`). `GapCheck` counts missing packets.
 - Nodes: the ground (`Ground`) and the spacecraft (`Spacecraft`), with their queues, and the simulated link between them
   (`Link`).
-- Commands over restarts: the board's part (`Executor`), and the ground's status, commands and orders (`BoardStatus`,
-  `command_packet`, `restart_order`, `rebuild_order`, `history_after`).
+- Commands over restarts: the board's part (`Executor`), the ground's (`Commander`), and for a ground of your own the
+  status, commands and orders (`BoardStatus`, `command_packet`, `restart_order`, `rebuild_order`, `history_after`).
 - Files: `read_frames` reads telemetry frames.
 - Old names, which cause a DeprecationWarning and will be removed after 0.3: `Farm.report` (now `control_word`),
   `Fop.report` (now `clcw`), `Ground.report_in` (now `clcw_in`), `Spacecraft.report` (now `telemetry_frame`),
@@ -24,8 +24,9 @@ from ._calls import (
     NO_START, ONLY_IDLE, Alert, Assembled, Clcw, Command, Control, Extracted, Farm, Flags, Fop, GapCheck, Kind, Map, Mode,
     Next, Packet, PacketKind, Segment, SequenceFlags, State, TakenFrame, TcFrame, TmBuilder, TmExtractor, TmFrame, Verdict,
     accepted_beyond, check, check_append, check_holds, segments, version)
+from ._commanding import Commander, CommanderAction, CommanderActionKind, GroundReading, Mission, Progress
 from ._faults import (
-    CheckFault, ClcwFault, CopFault, Fault, LinkFault, LogFault, MapFault, PacketFault, SimFault, TcFault,
+    CheckFault, ClcwFault, CopFault, Fault, LedgerFault, LinkFault, LogFault, MapFault, PacketFault, SimFault, TcFault,
     TelemetryFault, TmFault)
 from ._files import read_frames
 from ._library import Octets
@@ -39,10 +40,11 @@ from ._spacecraft import KeptNumbers, OnMap, Spacecraft
 __version__ = version
 __all__ = [
     "NO_START", "ONLY_IDLE", "Action", "ActionKind", "Alert", "Arrived", "Assembled", "Begun", "BoardStatus",
-    "CheckFault", "Clcw", "ClcwFault", "Command", "Config", "ConfigFault", "Control", "CopFault", "Executor",
-    "Extracted", "Farm", "Fault", "Flags", "Fop", "GapCheck", "Ground", "Heard", "KeptGround", "KeptNumbers",
-    "Kind", "Link", "LinkFault", "LogFault", "Map", "MapFault", "Mode", "Next", "Octets", "OnMap", "Packet",
-    "PacketFault", "PacketKind", "Received", "Report", "Segment", "SequenceFlags", "SimFault", "Spacecraft",
-    "State", "StatusKind", "TakenFrame", "TcFault", "TcFrame", "TelemetryFault", "TmBuilder", "TmExtractor",
-    "TmFault", "TmFrame", "Verdict", "accepted_beyond", "check", "check_append", "check_holds", "command_packet",
+    "CheckFault", "Clcw", "ClcwFault", "Command", "Commander", "CommanderAction", "CommanderActionKind", "Config",
+    "ConfigFault", "Control", "CopFault", "Executor", "Extracted", "Farm", "Fault", "Flags", "Fop", "GapCheck",
+    "Ground", "GroundReading", "Heard", "KeptGround", "KeptNumbers", "Kind", "LedgerFault", "Link", "LinkFault",
+    "LogFault", "Map", "MapFault", "Mission", "Mode", "Next", "Octets", "OnMap", "Packet", "PacketFault",
+    "PacketKind", "Progress", "Received", "Report", "Segment", "SequenceFlags", "SimFault", "Spacecraft", "State",
+    "StatusKind", "TakenFrame", "TcFault", "TcFrame", "TelemetryFault", "TmBuilder", "TmExtractor", "TmFault",
+    "TmFrame", "Verdict", "accepted_beyond", "check", "check_append", "check_holds", "command_packet",
     "history_after", "new_record", "read_frames", "rebuild_order", "restart_order", "segments", "version"]

@@ -239,6 +239,26 @@ class LinkFault(Fault):
     }
 
 
+class LedgerFault(Fault):
+    """Why a commander refuses a call."""
+
+    class Number(Numbers):
+        (LAYOUT, CHECK, FIELD_RANGE, TOO_LONG, NO_NUMBER, NOT_LOST, NO_BOOT, OWING, MEMORY) = range(1, 10)
+
+    _word = staticmethod(word_of("ledger_fault", NODES))
+    _meanings = {
+        1: "not the number of octets of a status",
+        2: "the check of a status does not hold, or a field has a value that the layout does not allow",
+        3: "a MAP is not open, an APID or a sequence count is out of range, or the octets are too many for a packet",
+        4: "the packet would be longer than the configured maximum",
+        5: "all numbers have been given",
+        6: "the board has not lost its record",
+        7: "no boot count is left for an order that brings a record",
+        8: "something must be stored or reported first",
+        9: "out of memory",
+    }
+
+
 class SimFault(Fault):
     """Why an event does not take place on a simulated link."""
 

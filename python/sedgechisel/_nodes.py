@@ -115,6 +115,7 @@ class Handle(Single):
 
     _opens: Callable[..., int]
     _closes: Callable[..., Any]
+    _faults: Type[Fault] = LinkFault
 
     def __init__(
             self, config: Optional[Config] = None, *,
@@ -138,7 +139,7 @@ class Handle(Single):
         answer = self._open(config)
         if answer == _OUT_OF_RANGE:
             raise ConfigFault(_config_fault(config._memory))
-        LinkFault._look_at(answer)
+        self._faults._look_at(answer)
         self._config = config._values()
 
     def __setattr__(self, name: str, value: Any) -> None:
@@ -185,11 +186,11 @@ class Handle(Single):
         if hasattr(self, "_handle"):
             self.close()
 
-    def _asked(self, answer: int, fault: Type[Fault] = LinkFault) -> int:
-        """Returns the answer of a call. Raises the fault unless the answer is 0."""
+    def _asked(self, answer: int, fault: Optional[Type[Fault]] = None) -> int:
+        """Returns the answer of a call. Raises the fault, by default of the node's own kind, unless the answer is 0."""
         if answer == _NONE:
             raise ValueError(f"the {type(self).__name__.lower()} is closed")
-        fault._look_at(answer)
+        (fault or self._faults)._look_at(answer)
         return answer
 
     def _is_absent(self, answer: int) -> bool:
