@@ -10,8 +10,10 @@ import subprocess
 import sys
 import tempfile
 
+import commanding
+
 HERE = os.path.dirname(os.path.realpath(__file__))
-SESSIONS, EVENTS = 200, 120
+SESSIONS, EVENTS = 300, 120
 
 
 class Counted:
@@ -59,28 +61,30 @@ def each_kind_of_node_is_freed(it):
     begun again frees the first, and one that is not begun leaves nothing."""
     counted = counted_of(it)
     it, chance = counted.package, random.Random(5)
-    for kind in (it.Ground, it.Spacecraft, it.Link):
+    words = it.Mission(2, 3, 6, 7), commanding.GIVEN + commanding.given(1, 4, commanding.command(2))
+    for kind, opens, words, fault in (*((kind, kind, (), it.LinkFault) for kind in (it.Ground, it.Spacecraft, it.Link)),
+                                      (it.Commander, functools.partial(it.Commander, *words), words, it.LedgerFault)):
         for _ in range(200):
             length = chance.randrange(16, 2049)
             before = counted.live
-            node = kind(frame_length=length)
+            node = opens(frame_length=length)
             held = counted.live
             assert held > before, f"{kind.__name__}: nothing is held"
-            node.__init__(frame_length=length)
+            node.__init__(*words, frame_length=length)
             assert counted.live == held, f"{kind.__name__}: {counted.live} places, and {held} before it was begun again"
             node.close(), node.close()
             assert counted.live == before == 0, f"{kind.__name__}: {counted.live} places after its close"
-            with kind(frame_length=length) as node:
+            with opens(frame_length=length) as node:
                 assert counted.live == held
             assert counted.live == 0
-            node = kind(frame_length=length)
+            node = opens(frame_length=length)
             del node
             gc.collect()
             assert counted.live == 0, f"{kind.__name__}: {counted.live} places where nothing refers to it"
-            says_no(it.ConfigFault, kind, frame_length=15)
+            says_no(it.ConfigFault, opens, frame_length=15)
             for which in range(1, held + 1):
                 counted.refuse(which)
-                says_no(it.LinkFault, kind, frame_length=length)
+                says_no(fault, opens, frame_length=length)
                 assert counted.live == 0, f"{kind.__name__}: {counted.live} places after a refusal"
             counted.refuse(0)
 
@@ -178,8 +182,60 @@ class OverALink:
         self.link.close()
 
 
+class OverACommander:
+    """A commander, the store, the last frames of it and of a spacecraft, and statuses that may be of another board."""
+
+    def __init__(self, it, chance):
+        config = it.Config(width=20, window=8, limit=2, timer=4, part=chance.choice((40, 1016)), maps=29,
+                           max_packet=chance.choice((60, 2000)), queue_slots=chance.choice((1, 30)), frame_length=64)
+        self.it, self.chance, self.up, self.down = it, chance, b"", b""
+        self.commander = it.Commander(it.Mission(1, 2, 6, 7), commanding.GIVEN, config)
+        self.board = it.Spacecraft(config)
+        self.action = self.boot = 0
+
+    def acts(self):
+        if self.action:
+            self.commander.done(self.action)
+            self.action = 0
+        else:
+            action = self.commander.next()
+            self.up = action.octets if action.kind is self.it.CommanderActionKind.SEND else self.up
+            owes_nothing = self.it.CommanderActionKind.NOTHING, self.it.CommanderActionKind.ALERT
+            self.action = 0 if action.kind in owes_nothing else action
+
+    def reports(self):
+        self.down = self.board.telemetry_frame()
+
+    def status(self):
+        chance, last = self.chance, self.chance.randrange(self.commander.below, self.commander.highest + 2)
+        self.boot += chance.random() < 0.2
+        record = self.boot, last, chance.getrandbits(64), chance.getrandbits(32), chance.randrange(2)
+        return commanding.status(*chance.choice(((0, record), (0, record), (0, (1, 0, 0, 0, 0)), (1, (0,) * 5))), 0)
+
+    def events(self):
+        chance, commander, board, status = self.chance, self.commander, self.board, self.status()
+        octets, tag, map = chance.randbytes(chance.choice((0, 9, 3000))), chance.getrandbits(64), chance.randrange(6)
+        lost = commanding.sealed(b"\3" + bytes([0, 0, 0, chance.randrange(9)]) + bytes(18))
+        packet = self.it.Packet(apid=chance.choice((7, 9))).encode(status)
+        return chance.choice((
+            (lambda: commander.command(tag, map, 5, 0, octets),), (self.acts,), (self.acts,), (self.reports,),
+            (lambda: board.receive(self.up), lambda: board.receive(self.up[1:]), board.take),
+            (lambda: commander.telemetry(self.down), lambda: commander.clcw(self.down[-6:-2] or bytes(4))),
+            (lambda: commander.status(status), lambda: commander.status(status[1:]), lambda: commander.status(lost)),
+            (commander.tick,), (commander.rebuild, commander.restart_board, commander.fresh, commander.take_telemetry),
+            (lambda: board.telemetry(packet),)))
+
+    def shown(self):
+        it = self.commander
+        return bytes(it._read()), it.ground, [it.progress(number) for number in range(9)], bytes(self.board._read())
+
+    def close(self):
+        self.commander.close(), self.board.close()
+
+
 def is_want_of_memory(it, fault):
-    return (type(fault), fault.number) in ((it.LinkFault, 6), (it.SimFault, 6), (it.TelemetryFault, 7))
+    numbers = {it.LinkFault: 6, it.SimFault: 6, it.TelemetryFault: 7, it.LedgerFault: 9}
+    return fault.number == numbers.get(type(fault))
 
 
 def memory_in_random_sessions(it):
@@ -189,8 +245,8 @@ def memory_in_random_sessions(it):
     it, refusals, answers = counted.package, 0, 0
     for number in range(SESSIONS):
         chance = random.Random(number)
-        session = (OverNodes, OverALink)[number % 2](it, chance)
-        refuses = number % 4 > 1
+        session = (OverNodes, OverALink, OverACommander)[number % 3](it, chance)
+        refuses = number % 6 > 2
         for _ in range(EVENTS):
             event, before, refused = chance.choice(session.events()), session.shown(), counted.refused
             counted.refuse(chance.randrange(1, 4) if refuses and chance.randrange(2) else 0)

@@ -11,6 +11,8 @@ import sys
 import threading
 import warnings
 
+import commanding
+import commanding_sessions
 import restarts
 from wanted import says
 
@@ -22,7 +24,8 @@ COMMAND = bytes.fromhex("1005c0000000aa")
 
 def each_member_of_each_enumeration(it):
     """Each member comes of a call, or names what a call read."""
-    found = [*verdicts(it), *alerts(it), *senders(it), *read(it), *arrivals(it), *links(it), *restarts.members(it)]
+    found = [*verdicts(it), *alerts(it), *senders(it), *read(it), *arrivals(it), *links(it), *restarts.members(it),
+             *commanding_sessions.members(it)]
     wanted = [member for kind in vars(it).values() if isinstance(kind, enum.EnumMeta) for member in kind]
     assert all(isinstance(one, enum.Enum) for one in found)
     names = {f"{type(one).__name__}.{one.name}" for one in found}
@@ -202,7 +205,7 @@ def each_method_with_the_longest_values(it):
     sys.setprofile(lambda frame, event, _: called.add(frame.f_code) if event == "call" else None)
     try:
         for calls in (longest_frames, longest_telemetry, longest_segments, longest_machines, longest_nodes,
-                      longest_link, restarts.longest):
+                      longest_link, restarts.longest, commanding.longest):
             calls(it)
     finally:
         sys.setprofile(None)
@@ -445,7 +448,7 @@ def owners(it):
     """What has methods, and one of each."""
     return (it.Clcw(), it.Farm(10), it.Fop(10, 5, 1, 1), it.TcFrame(), it.Packet(), it.TmFrame(),
             it.GapCheck(), it.TmBuilder(1, 0, 20), it.TmExtractor(), it.Map(), it.Ground(), it.Spacecraft(), it.Link(),
-            it.Executor(b"", b"", 0))
+            it.Executor(b"", b"", 0), it.Commander(it.Mission(1, 0, 6, 7)))
 
 
 def callables(it):
@@ -465,11 +468,13 @@ def each_wrong_argument(it):
     """A value of a wrong type is a TypeError, and a number that does not fit an OverflowError; both name it."""
     right = {"int": 1, "Optional[int]": 1, "Octets": bytes(4), "bool": False, "Clcw": it.Clcw(), "TmFrame": it.TmFrame(),
              "Optional[Config]": None, "Optional[KeptGround]": None, "Optional[KeptNumbers]": None,
-             "Readable": io.BytesIO(), "Action": it.Action(it.ActionKind.NOTHING, b"", 0, b"")}
+             "Readable": io.BytesIO(), "Action": it.Action(it.ActionKind.NOTHING, b"", 0, b""),
+             "Mission": it.Mission(1, 0, 6, 7), "CommanderAction": it.CommanderAction(it.CommanderActionKind.NOTHING)}
     wrong = {"int": ("1", 1.0, None, b"1"), "Octets": ("1", 1, None, it.Clcw()), "Clcw": ("1", 1, None, it.TmFrame()),
              "TmFrame": ("1", 1, None, it.Clcw()), "Optional[Config]": ("1", 1, it.Clcw()), "Optional[int]": ("1", 1.0),
              "Optional[KeptGround]": ("1", 1, it.KeptNumbers()), "Optional[KeptNumbers]": ("1", 1, it.Clcw()),
-             "Readable": ("1", 1, None), "Action": ("1", 1, None, it.Clcw())}
+             "Readable": ("1", 1, None), "Action": ("1", 1, None, it.Clcw()),
+             "Mission": ("1", 1, None, (1, 0, 6, 7)), "CommanderAction": ("1", 1, None, right["Action"])}
     tried = 0
     for name, call in callables(it):
         parameters = {own: one for own, one in inspect.signature(call).parameters.items() if own != "fields"}

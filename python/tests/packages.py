@@ -53,8 +53,9 @@ def types(it):
                     file.write(program)
         assert len(programs) > 6
         programs += [f"{TOP}/python/examples/{name}.py" for name in ("reset", "restart", "failover")]
+        programs += [f"{TOP}/examples/commanding/{name}.py" for name in ("ground", "board")]
         mypy = ("mypy", "--strict", "--python-version", "3.9", "--cache-dir", f"{folder}/kept")
-        env = {**os.environ, "MYPYPATH": f"{TOP}/python"}
+        env = {**os.environ, "MYPYPATH": f"{TOP}/python:{TOP}/examples/commanding"}
         for words in ((f"{TOP}/python/sedgechisel",), programs):
             ran = subprocess.run([*mypy, *words], capture_output=True, text=True, env=env)
             assert ran.returncode == 0, ran.stdout + ran.stderr

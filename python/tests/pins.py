@@ -6,22 +6,23 @@ import os
 import re
 
 TOP = os.path.dirname(os.path.dirname(os.path.dirname(os.path.realpath(__file__))))
-MODULES = ("_faults", "_calls", "_nodes", "_spacecraft", "_link", "_log")
+MODULES = ("_faults", "_calls", "_nodes", "_spacecraft", "_link", "_log", "_commanding")
 
 # Calls that only tell how many octets are next, which the package does not ask: it gives room for the most; and the
 # defaults, which the signature of Config has (python/check compares them).
 NOT_CALLED = {"sedge_ground_next", "sedge_ground_next_telemetry", "sedge_spacecraft_next",
-              "sedge_spacecraft_next_bypass", "sedge_config_default"}
+              "sedge_spacecraft_next_bypass", "sedge_commander_next_telemetry", "sedge_config_default"}
 
 # The kinds of nodes.
-HANDLES = ("ground", "spacecraft", "sim")
+HANDLES = ("ground", "spacecraft", "sim", "commander")
 
 # Each enumeration with its enum in the headers, and the members that have another name there. (Arrived has the kinds of
 # both, sedge_received_kind and sedge_heard_kind.)
 ENUMS = {"Verdict": "verdict", "Mode": "farm_mode", "Alert": "alert", "Next": "next", "Kind": "tc_kind",
          "Segment": "segment_flags", "Command": "command", "PacketKind": "packet_kind", "Flags": "clcw_flags",
          "State": "fop_state", "Control": "control", "Begun": "begun", "SequenceFlags": "sequence_flags",
-         "Report": "heard_report", "ActionKind": "log_action", "StatusKind": "log_status_kind"}
+         "Report": "heard_report", "ActionKind": "log_action", "StatusKind": "log_status_kind",
+         "CommanderActionKind": "commander_action_kind", "Progress": "progress"}
 MEMBERS = {"SEDGE_NO_ALERT": "NONE"}
 
 
@@ -77,7 +78,7 @@ def calls_by_their_names(it):
         name = made_of(call)
         own = where.rpartition("._")[2]
         assert name == f"sedge_{own}", f"{where} is {name}"
-    for kind, prefix in zip((it.Ground, it.Spacecraft, it.Link), HANDLES):
+    for kind, prefix in zip((it.Ground, it.Spacecraft, it.Link, it.Commander), HANDLES):
         assert made_of(kind._opens) == f"sedge_{prefix}_open" and made_of(kind._closes) == f"sedge_{prefix}_close"
     assert len(known) > 70
 
@@ -119,11 +120,14 @@ def is_name_of(member, case):
 PREFIXES = {"Clcw": "clcw", "Farm": "farm", "Fop": "fop", "TcFrame": "tc", "Packet": "packet", "TmFrame": "tm",
             "TmBuilder": "tm_builder", "TmExtractor": "tm_extractor", "Map": "map", "Config": "config",
             "Ground": "ground", "Spacecraft": "spacecraft", "Link": "sim", "Directives": "directive", "GapCheck": "gap_check",
-            "Executor": "log"}
+            "Executor": "log", "Commander": "commander"}
 # Methods that make other calls than the one of their own name, and what these are.
 OTHERS = {
     "GapCheck.__init__": "gap_check_open", "Spacecraft._open": "spacecraft_open_kept config_fault",
     "Ground._open": "ground_open_kept config_fault",
+    "Commander._open": "commander_open", "Commander._made": "commander_next commander_unstored commander_take_telemetry",
+    "Commander._tells": "commander_told", "Commander._calls_of": "commander_stored commander_unstored commander_told",
+    "Commander._read": "commander_read", "Commander.ground": "commander_read_ground",
     "Executor.__init__": "log_start", "new_record": "log_new_record", "BoardStatus.decode": "log_status_decode",
     "command_packet": "log_command_encode", "_order": "log_order_encode", "history_after": "log_history_after",
     "Farm.__init__": "farm_open", "Farm.mode": "farm_state", "Fop.__init__": "fop_open",
@@ -156,6 +160,8 @@ BY = {
     **{f"Link.{name}": f"_read {name}" for name in ("state", "outstanding", "acknowledged", "begun", "clean", "idle",
                                                     "confirmed")},
     "Link._shown": "_read state outstanding acknowledged",
+    "Commander.below": "_read below", "Commander.highest": "_read highest", "Commander.is_worth": "_read worth",
+    "Commander._shown": "_read highest below",
     **{f"Link.{name}": f"_read_ground {name}" for name in ("vs", "nn", "unsent", "due", "ticks", "count")},
     "Link.bypass_unsent": "_read_ground bypassed", "Link.bypass_ready": "_read_spacecraft bypassed",
     "Link.mode": "_read_spacecraft state", "Link.ready": "_read_spacecraft ready",
@@ -167,13 +173,14 @@ BY = {
 NONE = {"TmFrame.__init__", "TmFrame.ocf", "TmBuilder.waiting", "TmExtractor.__init__", "TmExtractor.dropped",
         "TmExtractor._begun", "TmExtractor.take", "TcFrame.decode_all", "Ground.telemetry_all", "Map.__init__",
         "Clcw.__init__", "TcFrame.__init__", "Packet.__init__", "Config.__init__", "Ground.__init__",
+        "Commander.__init__", "Commander.close", "Commander.good", "Commander.next", "Commander.done", "Commander._whole",
         "Spacecraft.__init__", "Ground.submit", "Ground.try_submit", "Link._taken", "Directives._direct"}
 # Methods that read a struct, of which another one gives a field.
 READS = ("_read", "_read_ground", "_read_spacecraft")
 # What a method keeps for itself, wherever it does.
 KEPT = {"room", "longest", "blocking", "kept"}
 # What a method gives by its fields.
-PARTED = {"Executor.done action"}
+PARTED = {"Executor.done action", "Commander.done action"}
 # What methods for many frames keep: the channel whose frames they look at.
 CHANNEL = {f"{name} {one}" for name in ("TcFrame.decode_all", "TmExtractor.take_all") for one in ("scid", "vcid")}
 
@@ -226,7 +233,7 @@ def methods_and_their_calls(it):
         owner, _, own = name.rpartition(".")
         prefix = "directive" if own in it._calls._DIRECTIVES else PREFIXES.get(owner)
         default = f"{prefix}_{own}" if prefix else own
-        others = ("Handle", "_Struct", "_Part", "_Heard", "_Renamed", "KeptGround", "KeptNumbers")
+        others = ("Handle", "_Struct", "_Part", "_Heard", "_Renamed", "_Hand", "KeptGround", "KeptNumbers", "Mission")
         if owner in others or (not owner and default not in known):
             assert made == OTHERS.get(name, ""), f"{name} calls {made}"
         elif name in BY:
@@ -249,7 +256,7 @@ def methods_and_their_arguments(it):
             continue
         given = (*function.args.args, *function.args.kwonlyargs)
         # (A node gives the fields of its configuration by `_fields_of`, all at once.)
-        others = ("self", "cls", *(it.Config._kinds if owner in ("Ground", "Spacecraft") and own == "__init__" else ()))
+        others = ("self", "cls", *(it.Config._kinds if owner in ("Ground", "Spacecraft", "Commander") and own == "__init__" else ()))
         parameters = [one.arg for one in given if one.arg not in others and f"{name} {one.arg}" not in PARTED]
         octets = [one for one in parameters if one in ("octets", "data", "packet", "packets", "ocf")
                   and name not in ("TmFrame.__init__", "TmFrame.ocf")]
