@@ -17,8 +17,8 @@ SOURCES = {"sedgechisel": [], "sedgechisel_nodes": ["c/memory/malloc.c"]}
 NEEDED = "Install one, as by apt install gcc, or name it by CC, or install a wheel (docs/PYTHON.md)."
 # The files of a source distribution. (tools/release adds ACCOUNT.)
 PACKED = ("c/include/*.h", "c/portable/sedgechisel*.c", "c/memory/*.c", "python/sedgechisel/*.py",
-          "python/sedgechisel/py.typed", "python/examples/*", "python/source/*.py", "python/wheel", "pyproject.toml",
-          "docs/PYTHON.md", "ACCOUNT")
+          "python/sedgechisel/py.typed", "python/examples/*", "examples/commanding/*.py", "python/source/*.py",
+          "python/wheel", "pyproject.toml", "docs/PYTHON.md", "ACCOUNT")
 
 
 def compiled(name, room):
