@@ -152,16 +152,8 @@ class Commander(Handle):
     moment: a ground node, and the ledger of its commands. On board an `Executor` decides what is executed.
 
     It does no input or output. `next` returns the program's next action. The program must complete it, and pass it to
-    `done`, before it calls `next` again:
-
-        while (action := commander.next()).kind:
-            if action.kind is CommanderActionKind.STORE:
-                append(action.octets)  # returns once the octets are in the store
-            elif action.kind is CommanderActionKind.SEND:
-                send(action.octets)
-            else:
-                report(action)
-            commander.done(action)
+    `done`, before it calls `next` again. After each input (a command, a frame, a CLCW, a status, a tick) the program
+    does this until `next` returns NOTHING.
 
     A call that is refused raises a fault. Nothing has changed then, and after LedgerFault 9 (Memory) the call may be
     repeated. A call on a closed commander raises a ValueError."""
@@ -243,9 +235,9 @@ class Commander(Handle):
 
     def next(self) -> CommanderAction:
         """Returns the program's next action. What must be stored or reported comes before telemetry, and telemetry
-        before frames. For SEND the frame counts as sent, and for TELEMETRY the packet is taken: nothing more is owed
-        than to do something with the octets. Raises RuntimeError if `done` was not called for the action that it
-        returned last (unless that was NOTHING or ALERT), or LedgerFault 9 (Memory).
+        before frames. For SEND the frame counts as sent, and for TELEMETRY this call has taken the packet: `done` then
+        only confirms that the program has used the octets. Raises RuntimeError if `done` was not called for the action
+        that it returned last (unless that was NOTHING or ALERT), or LedgerFault 9 (Memory).
 
         If a signal handler raises in this call, the next call returns the action."""
         while True:
