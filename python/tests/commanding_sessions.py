@@ -104,7 +104,9 @@ class World:
                 self.told.append((action.kind.name, action.alert or action.number))
             if crashes:
                 self.crashes += 1
-                return self.opens()
+                self.opens()
+                self.given = {tag: it for tag, it in self.given.items() if it[0] <= self.commander.highest}
+                return
             self.commander.done(action)
 
     def passes(self, ticks):
@@ -255,7 +257,7 @@ def fates_of(it, world):
     """The tags that were told to be executed, and those that were told to be unknown."""
     numbers = [number for number, _ in world.board.executed]
     assert numbers == sorted({*numbers}), numbers
-    stored = {number: tag for tag, (number, _) in world.given.items()}  # the last command that was given the number
+    stored = {number: tag for tag, (number, _) in world.given.items()}
     contents = {number: world.given[tag][1] for number, tag in stored.items()}
     assert all(contents[number] == content for number, content in world.board.executed)
     assert not world.names("FOREIGN") and world.commander.below == world.commander.highest == max(stored)
