@@ -254,13 +254,40 @@ static size_t records(struct sedge_sim *sim) {
     return sum;
 }
 
+/* What a commander's calls write, and a status that comes to it. */
+static size_t commands(struct sedge_commander *commander, const uint8_t *status, size_t count) {
+    struct sedge_commander_action action;
+    struct sedge_commander_reading read;
+    struct sedge_ground_reading ground;
+    struct sedge_heard heard, word_heard;
+    uint8_t frame[1024], octets[300], fresh[300], packet[300], progress;
+    uint32_t number;
+    size_t due, total, next, taken, sum = 0;
+    if (sedge_commander_command(commander, 7, 4, 5, 6, status, count, &number) == 0) sum += USED(number);
+    if (sedge_commander_next(commander, &action, frame, sizeof frame) == 0) sum += USED(action.kind) + USED(action.count);
+    if (sedge_commander_unstored(commander, octets, sizeof octets, &due) == 0 && USED(due) > 0) sum += USED(octets[0]);
+    if (sedge_commander_stored(commander, due) == 0) sum += due;
+    if (sedge_commander_fresh(commander, fresh, sizeof fresh, &total) == 0) sum += USED(total) + USED(fresh[0]);
+    if (sedge_commander_progress(commander, 1, &progress) == 0) sum += USED(progress);
+    if (sedge_commander_telemetry(commander, status, count, &heard) == 0) sum += USED(heard.kind);
+    if (sedge_commander_clcw(commander, status, 4, &word_heard) == 0) sum += USED(word_heard.report);
+    if (sedge_commander_next_telemetry(commander, &next) == 0) sum += USED(next);
+    if (sedge_commander_take_telemetry(commander, packet, sizeof packet, &taken) == 0 && USED(taken) > 0)
+        sum += USED(packet[0]);
+    if (sedge_commander_read(commander, &read) == 0) sum += USED(read.below) + USED(read.highest) + USED(read.worth);
+    if (sedge_commander_read_ground(commander, &ground) == 0) sum += USED(ground.outstanding);
+    return sum + (size_t)sedge_commander_status(commander, status, count);
+}
+
 static size_t nodes(const uint8_t *packet, size_t count) {
     struct sedge_config config;
     struct sedge_ground ground = {0};
     struct sedge_spacecraft spacecraft = {0};
     struct sedge_sim sim = {0};
     struct sedge_event event = {0, 0, 0, 0, 0, 0};
-    size_t sum = 0;
+    struct sedge_commander commander = {0};
+    const struct sedge_mission mission = {2, 6, 7, 0, 0};
+    size_t good, sum = 0;
     sedge_config_default(&config);
     sum += USED(config.scid);
     event.kind = SEDGE_EVENT_SUBMIT;
@@ -272,6 +299,9 @@ static size_t nodes(const uint8_t *packet, size_t count) {
         sedge_ground_submit(&ground, 4, packet, count) == SEDGE_NODE_OK)
         sum += up(&ground, &spacecraft) + down(&ground, &spacecraft) + readings(&ground, &spacecraft, 1);
     if (sedge_sim_open(&sim, &config) == SEDGE_NODE_OK) sum += linked(&sim, &event) + records(&sim);
+    if (sedge_commander_open(&commander, &config, &mission, packet, count, &good) == 0)
+        sum += USED(good) + commands(&commander, packet, count);
+    sedge_commander_close(&commander);
     sedge_sim_close(&sim);
     sedge_spacecraft_close(&spacecraft);
     sedge_ground_close(&ground);

@@ -22,6 +22,7 @@ static const struct texts ALL[] = {
     {"log_fault", sedge_log_fault_text, sedge_log_fault_name},
     {"link_fault", sedge_link_fault_text, sedge_link_fault_name},
     {"sim_fault", sedge_sim_fault_text, sedge_sim_fault_name},
+    {"ledger_fault", sedge_ledger_fault_text, sedge_ledger_fault_name},
     {"parameter", sedge_parameter_text, sedge_parameter_name},
 };
 
@@ -55,6 +56,8 @@ int main(void) {
     if (strcmp(sedge_tc_fault_text(SEDGE_DAMAGED), sedge_status_text(SEDGE_DAMAGED)) != 0) wrong = 1;
     if (strcmp(sedge_sim_fault_text(SEDGE_NODE_NONE), sedge_link_fault_text(SEDGE_NODE_NONE)) != 0) wrong = 1;
     if (strcmp(sedge_sim_fault_text(SEDGE_NODE_NOT_OPEN), "?") != 0) wrong = 1;
+    if (strcmp(sedge_ledger_fault_text(SEDGE_NODE_NONE), sedge_link_fault_text(SEDGE_NODE_NONE)) != 0) wrong = 1;
+    if (strcmp(sedge_ledger_fault_text(10), "?") != 0) wrong = 1;
     puts(wrong ? "Some texts are wrong." : "All is as wanted.");
     return wrong;
 }
