@@ -1,6 +1,7 @@
-/* libFuzzer: both nodes and the simulated link by a list of calls in octets, with memory refused where the input says.
- * All memory is let go of at the end. A call that answers that there was no memory left the node as it was, and none
- * answers so unless memory was refused. What is delivered over the simulated link is no more than what was submitted. */
+/* libFuzzer: both nodes, the simulated link, and a commander with a board, by a list of calls in octets, with memory
+ * refused where the input says. All memory is let go of at the end. A call that answers that there was no memory left
+ * the node as it was, and none answers so unless memory was refused. What is delivered over the simulated link is no
+ * more than what was submitted. */
 #include "octets.h"
 #include "sedgechisel_memory.h"
 #include "sedgechisel_nodes.h"
@@ -375,12 +376,193 @@ static void linked(struct in *i) {
     sedge_sim_close(&sim);
 }
 
+/* ---- A commander with a board. ---- */
+
+struct commanded {
+    struct link l;
+    struct sedge_mission mission;
+    struct sedge_commander commander;
+    struct sedge_log log;
+    uint8_t places[2][50], store[65536];
+    size_t stored;
+};
+
+/* A call that may want memory: it answers so only if some was refused, and the commander is then as it was. */
+static uint8_t asked(struct commanded *c, uint8_t answer, const struct sedge_commander_reading *before) {
+    struct sedge_commander_reading a = *before, b;
+    if (answer != SEDGE_LEDGER_MEMORY) return answer;
+    WANT(refused && sedge_commander_read(&c->commander, &b) == SEDGE_NODE_OK);
+    WANT(SAME(below) && SAME(highest) && SAME(worth));
+    return answer;
+}
+
+/* The board's next action, of which nothing is cut off; a board that restarts has what is at its places. */
+static void board_acts(struct commanded *c) {
+    uint32_t number;
+    uint8_t octets[50], action = sedge_log_next(&c->log, octets, sizeof octets, &number), map;
+    struct sedge_part content;
+    size_t n;
+    if (action == SEDGE_LOG_NOTHING) {
+        WANT(sedge_spacecraft_take_bypass(&c->l.spacecraft, &map, out, sizeof out, &n) == SEDGE_NODE_OK);
+        if (n > 0) (void)!sedge_log_obey(&c->log, out, n);
+        WANT(sedge_spacecraft_take(&c->l.spacecraft, &map, out, sizeof out, &n) == SEDGE_NODE_OK);
+        if (n > 0) (void)!sedge_log_offer(&c->log, out, n, &content);
+        return;
+    }
+    if (action == SEDGE_LOG_WRITE_FIRST || action == SEDGE_LOG_WRITE_SECOND)
+        memcpy(c->places[action - SEDGE_LOG_WRITE_FIRST], octets, sizeof octets);
+    if (action == SEDGE_LOG_RESTART) sedge_log_start(&c->log, c->places[0], 50, c->places[1], 50, 9);
+    else WANT(sedge_log_done(&c->log, action, number) == SEDGE_OK);
+}
+
+static void restarts(struct commanded *c, struct in *i) {
+    uint8_t k = in8(i);
+    if (k & 1) c->places[0][k >> 2] ^= 1;
+    if (k & 2) c->places[1][k >> 2 & 31] ^= 1;
+    sedge_log_start(&c->log, c->places[0], 50, c->places[1], 50, k);
+}
+
+static uint8_t says(struct commanded *c, struct in *i) {
+    uint8_t packet[33] = {0, 2, 0xc0, 0, 0, 26}, k = in8(i);
+    WANT(sedge_log_status(&c->log, k >> 4, packet + 6, 27) == SEDGE_OK);
+    if (k & 1) return sedge_commander_status(&c->commander, packet + 6, k & 2 ? 27 : in8(i) % 28);
+    (void)!sedge_spacecraft_telemetry(&c->l.spacecraft, packet, sizeof packet);
+    return 0;
+}
+
+static uint8_t frame_comes(struct commanded *c, struct in *i) {
+    struct sedge_heard heard;
+    size_t n;
+    uint8_t *o, answer = 0, word[4] = {1, 8, 0, 0};
+    WANT(sedge_spacecraft_telemetry_frame(&c->l.spacecraft, out, sizeof out, &n) == SEDGE_NODE_OK);
+    o = on_its_way(i, out, n);
+    if (o) answer = sedge_commander_telemetry(&c->commander, o, n, &heard);
+    else (void)!sedge_commander_clcw(&c->commander, word, in8(i) & 7 ? 4 : 3, &heard);
+    free(o);
+    return answer;
+}
+
+static uint8_t is_given(struct commanded *c, struct in *i) {
+    uint32_t number;
+    uint8_t k = in8(i);
+    size_t n = k & 0x40 ? in16(i) % 3000U : in8(i) % 60U;
+    uint8_t *o = in_octets(i, n);
+    uint8_t answer = sedge_commander_command(&c->commander, n, k & 7, (uint16_t)(k << 3), k, o, n, &number);
+    free(o);
+    return answer;
+}
+
+/* The store has what is due; beyond its end nothing is stored. */
+static uint8_t is_stored(struct commanded *c, size_t due) {
+    size_t n = 0;
+    if (due > sizeof c->store - c->stored) return 0;
+    if (due > 0) WANT(sedge_commander_unstored(&c->commander, c->store + c->stored, due - 1, &n) == SEDGE_LEDGER_ROOM);
+    WANT(sedge_commander_unstored(&c->commander, c->store + c->stored, due, &n) == SEDGE_NODE_OK && n == due);
+    c->stored += n;
+    return sedge_commander_stored(&c->commander, n);
+}
+
+static uint8_t ground_acts(struct commanded *c, struct in *i) {
+    struct sedge_commander_action action;
+    size_t n, want;
+    uint8_t *o, answer;
+    WANT(sedge_commander_next(&c->commander, &action, out, 1023) == SEDGE_LEDGER_ROOM);
+    answer = sedge_commander_next(&c->commander, &action, out, sizeof out);
+    if (answer != SEDGE_NODE_OK) return answer;
+    switch (action.kind) {
+    case SEDGE_COMMANDER_NOTHING: case SEDGE_COMMANDER_ALERT: return 0;
+    case SEDGE_COMMANDER_STORE: return is_stored(c, action.count);
+    case SEDGE_COMMANDER_TELEMETRY:
+        WANT(sedge_commander_next_telemetry(&c->commander, &want) == SEDGE_NODE_OK && want > 0);
+        WANT(sedge_commander_take_telemetry(&c->commander, out, want - 1, &n) == SEDGE_LEDGER_ROOM);
+        return sedge_commander_take_telemetry(&c->commander, out, sizeof out, &n);
+    case SEDGE_COMMANDER_SEND:
+        o = on_its_way(i, out, action.count);
+        if (o) arrives(&c->l, o, action.count);
+        free(o);
+        return 0;
+    default: return sedge_commander_told(&c->commander, &action);
+    }
+}
+
+/* The commander is opened at its store, or at one that is cut off or changed, of which a beginning is good. */
+static uint8_t reopened(struct commanded *c, struct in *i) {
+    uint8_t k = in8(i);
+    size_t count = k & 1 ? in16(i) % (c->stored + 1) : c->stored, good = 0;
+    uint8_t answer;
+    if (k & 2 && count > 0) c->store[in16(i) % count] ^= in8(i);
+    answer = sedge_commander_open(&c->commander, &c->l.config, &c->mission, c->store, count, &good);
+    if (answer != SEDGE_NODE_OK) return answer;
+    WANT(good <= count);
+    c->stored = good;
+    return 0;
+}
+
+static uint8_t renewed(struct commanded *c) {
+    size_t n = 0;
+    uint8_t answer = sedge_commander_fresh(&c->commander, out, sizeof out, &n);
+    if (answer != SEDGE_NODE_OK) return answer;
+    memcpy(c->store, out, c->stored = n);
+    return sedge_commander_renewed(&c->commander, n);
+}
+
+static uint8_t operated(struct commanded *c, struct in *i) {
+    struct sedge_ground_reading read;
+    uint8_t k = in8(i), progress;
+    (void)!sedge_commander_progress(&c->commander, k >> 3, &progress);
+    WANT(sedge_commander_read_ground(&c->commander, &read) == SEDGE_NODE_OK);
+    switch (k & 7) {
+    case 0: return sedge_commander_pause(&c->commander);
+    case 1: return sedge_commander_restart_board(&c->commander);
+    case 2: return sedge_commander_rebuild(&c->commander);
+    default: return sedge_commander_go_on(&c->commander);
+    }
+}
+
+static uint8_t commander_step(struct commanded *c, struct in *i, uint8_t op) {
+    switch (op % 16) {
+    case 0: return is_given(c, i);
+    case 1: return says(c, i);
+    case 2: return frame_comes(c, i);
+    case 3: case 4: case 5: case 6: return ground_acts(c, i);
+    case 7: case 8: case 9: board_acts(c); return 0;
+    case 10: case 11: return sedge_commander_tick(&c->commander);
+    case 12: restarts(c, i); return 0;
+    case 13: return reopened(c, i);
+    case 14: return renewed(c);
+    default: return operated(c, i);
+    }
+}
+
+static void commands(struct in *i) {
+    static struct commanded c;
+    struct sedge_commander_reading before;
+    memset(&c, 0, sizeof c);
+    c.l.config = config_of(i);
+    c.mission = (struct sedge_mission){in8(i) % 6, 6, 2, 0, in8(i) & 1};
+    WANT(sedge_log_new_record(c.places[0], 50) == SEDGE_OK);
+    memcpy(c.places[1], c.places[0], 50);
+    sedge_log_start(&c.log, c.places[0], 50, c.places[1], 50, 8);
+    if (sedge_spacecraft_open(&c.l.spacecraft, &c.l.config) == SEDGE_NODE_OK && reopened(&c, i) == SEDGE_NODE_OK) {
+        for (int left = 600; i->left && left > 0; left--) {
+            uint8_t op = in8(i);
+            WANT(sedge_commander_read(&c.commander, &before) == SEDGE_NODE_OK);
+            refuse_by(i, op);
+            (void)asked(&c, commander_step(&c, i, op), &before);
+            refuse = 0;
+        }
+    }
+    sedge_commander_close(&c.commander);
+    sedge_spacecraft_close(&c.l.spacecraft);
+}
+
 int LLVMFuzzerTestOneInput(const uint8_t *data, size_t size) {
     struct in i = {data, size};
     uint8_t k = in8(&i);
     places = 0;
     refuse_by(&i, (uint8_t)(k << 6));
-    if (k & 1) nodes(&i);
+    if (k >= 0xf0) commands(&i);
+    else if (k & 1) nodes(&i);
     else linked(&i);
     refuse = 0;
     WANT(places == 0);
