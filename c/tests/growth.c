@@ -14,6 +14,9 @@ enum { PAIRS = 300, TRIES = 7, MOST_TIMES = 4 };
 static struct sedge_config config;
 static struct sedge_ground ground;
 static struct sedge_spacecraft spacecraft;
+static struct sedge_commander commander;
+static struct sedge_log board;
+static uint32_t executed;
 static uint8_t octets[2048], packet[600] = {0x00, 5, 0xc0, 0, 593 >> 8, 593 & 0xff};
 static uint8_t command[7] = {0x10, 5, 0xc0, 0, 0, 0, 0xaa}, small[7] = {0x00, 5, 0xc0, 0, 0, 0, 0xaa}, out[65542];
 static size_t count;
@@ -91,6 +94,58 @@ static void pull_and_bypass(void) {
     DONE(sedge_ground_bypass(&ground, 4, command, sizeof command));
 }
 
+/* ---- Commands without a fate. ---- */
+
+/* What must be stored or reported is. */
+static void is_stored(void) {
+    struct sedge_commander_action action;
+    do {
+        DONE(sedge_commander_next(&commander, &action, out, sizeof out));
+        if (action.kind == SEDGE_COMMANDER_STORE) {
+            DONE(sedge_commander_unstored(&commander, out, sizeof out, &count));
+            DONE(sedge_commander_stored(&commander, count));
+        } else if (action.kind != SEDGE_COMMANDER_NOTHING) {
+            DONE(sedge_commander_told(&commander, &action));
+        }
+    } while (action.kind != SEDGE_COMMANDER_NOTHING);
+}
+
+static void is_given(void) {
+    uint32_t number;
+    DONE(sedge_commander_command(&commander, 7, 4, 5, 0, command, sizeof command, &number));
+    is_stored();
+}
+
+/* The board does what is to be done. */
+static void is_done(void) {
+    uint8_t action;
+    uint32_t number;
+    while ((action = sedge_log_next(&board, octets, 50, &number)) != SEDGE_LOG_NOTHING)
+        DONE(sedge_log_done(&board, action, number));
+}
+
+static void has_no_fate(size_t length) {
+    const struct sedge_mission mission = {2, 6, 2, 0, 0};
+    sedge_commander_close(&commander);
+    DONE(sedge_commander_open(&commander, &config, &mission, octets, 0, &count));
+    DONE(sedge_log_new_record(octets, 50));
+    sedge_log_start(&board, octets, 50, octets, 50, 1);
+    is_done();
+    executed = 0;
+    while (length-- > 0) is_given();
+}
+
+static void execute_and_give(void) {
+    struct sedge_part content;
+    DONE(sedge_log_command_encode(5, 0, ++executed, command, sizeof command, out, sizeof out, &count));
+    DONE(sedge_log_offer(&board, out, count, &content));
+    is_done();
+    DONE(sedge_log_status(&board, 0, octets, 27));
+    DONE(sedge_commander_status(&commander, octets, 27));
+    is_stored();
+    is_given();
+}
+
 /* ---- Times. ---- */
 
 static double seconds(void) {
@@ -119,6 +174,7 @@ static double least_time(void (*fill)(size_t), void (*pair)(void), size_t length
     }
     sedge_ground_close(&ground);
     sedge_spacecraft_close(&spacecraft);
+    sedge_commander_close(&commander);
     return least;
 }
 
@@ -131,7 +187,8 @@ int main(void) {
     } queues[] = {{"telemetry on board, 6 and 60 MB", waits_on_board, report_and_queue, 10000},
                   {"packets of telemetry on the ground, 20,000 and 200,000", waits_on_ground, hear_and_take, 20000},
                   {"segments pending, 6,500 and 65,000", is_pending, pull_and_submit, 6500},
-                  {"packets past the sequence control, 6,500 and 65,000", is_past, pull_and_bypass, 6500}};
+                  {"packets past the sequence control, 6,500 and 65,000", is_past, pull_and_bypass, 6500},
+                  {"commands without a fate, 6,500 and 65,000", has_no_fate, execute_and_give, 6500}};
     int failures = 0;
     size_t k;
     sedge_config_default(&config);
