@@ -148,7 +148,8 @@ static void commander_plays(bool is_first) {
     WANT(sedge_commander_open(&commander, &config, &mission, store, 0, &good) == 0);
     downs = 0;
     for (k = 0; k < COMMANDS; k++) {
-        WANT(sedge_commander_command(&commander, k, MAP, 5, (uint16_t)(k & 16383), content, content_count, &number) == 0);
+        WANT(sedge_commander_command(&commander, k, MAP, 5, (uint16_t)(k & 16383), content, content_count, &number)
+             == 0);
         if (k > 0) commander_works(is_first);
         for (size_t left = BEFORE; k == 0 && left > 0; left--) commander_hears(downs++, is_first);
         if (++in_batch == batch) in_batch = 0, commander_hears(downs++, is_first);
@@ -228,8 +229,8 @@ static void first_session(void) {
     commander_plays(true);
     WANT(sedge_commander_read(&commander, &read) == 0 && read.below == COMMANDS);
     for (size_t k = 0; k < COMMANDS; k++)
-        WANT(sedge_log_command_encode(5, (uint16_t)(k & 16383), (uint32_t)k + 1, content, content_count, packets[k], 1024,
-                                      &packet_count) == SEDGE_OK);
+        WANT(sedge_log_command_encode(5, (uint16_t)(k & 16383), (uint32_t)k + 1, content, content_count, packets[k],
+                                      1024, &packet_count) == SEDGE_OK);
 }
 
 static void compares(size_t count, size_t each) {

@@ -1,8 +1,8 @@
 /* A commander through libsedgechisel_nodes: the entries of its store and the frames that it sends, octet by octet, as
- * Python's struct and zlib work them out; each refusal by its number and in its order, with nothing written or changed;
- * handles that hold none; stores that are cut off at any octet; and a session with a board in which each of both ends is
- * killed at each of its actions in turn (commanding.h). Each allocation is refused in turn. The memory is malloc's,
- * counted, with one allocation refused; or, with OVER_MEMORY, that of a file of c/memory. */
+ * Python's struct and zlib work them out; each refusal by its number and in its order, with nothing written or
+ * changed; handles that hold none; stores that are cut off at any octet; and a session with a board in which each of
+ * both ends is killed at each of its actions in turn (commanding.h). Each allocation is refused in turn. The memory is
+ * malloc's, counted, with one allocation refused; or, with OVER_MEMORY, that of a file of c/memory. */
 #include "commanding.h"
 #include <sedgechisel_memory.h>
 #include <stdlib.h>
@@ -46,9 +46,10 @@ static const uint8_t SAYS[27] = {0x00, 0x00, 0x00, 0x00, 0x01, 0x00, 0x00, 0x00,
                                  0x00, 0x00, 0x01, 0xde, 0x30, 0x53, 0x43, 0x00, 0x00, 0x98, 0xbf, 0x22, 0x4c};
 static const uint8_t OTHER[27] = {0x00, 0x00, 0x00, 0x00, 0x01, 0x00, 0x00, 0x00, 0x01, 0x00, 0x00, 0x00, 0x00, 0x00,
                                   0x00, 0x00, 0x01, 0xde, 0x30, 0x53, 0x42, 0x00, 0x00, 0x99, 0x7d, 0x48, 0x7b};
-static const uint8_t HEARD[30] = {0x00, 0x00, 0x00, 0x1e, 0x02, 0x00, 0x00, 0x00, 0x01, 0x00, 0x00, 0x00, 0x01, 0x00, 0x00,
-                                  0x00, 0x00, 0x00, 0x00, 0x00, 0x01, 0xde, 0x30, 0x53, 0x43, 0x00, 0xa7, 0xfc, 0xf1, 0x26};
-/* The status of a loss with mark 12345678, its entry, that of the order, and the status of the record that it brings. */
+static const uint8_t HEARD[30] = {0x00, 0x00, 0x00, 0x1e, 0x02, 0x00, 0x00, 0x00, 0x01, 0x00,
+                                  0x00, 0x00, 0x01, 0x00, 0x00, 0x00, 0x00, 0x00, 0x00, 0x00,
+                                  0x01, 0xde, 0x30, 0x53, 0x43, 0x00, 0xa7, 0xfc, 0xf1, 0x26};
+/* The status of a loss with mark 12345678, its entry, that of the order, and the status of the record it brings. */
 static const uint8_t LOST[27] = {0x03, 0x12, 0x34, 0x56, 0x78, 0x00, 0x00, 0x00, 0x00, 0x00, 0x00, 0x00, 0x00, 0x00,
                                  0x00, 0x00, 0x00, 0x00, 0x00, 0x00, 0x00, 0x00, 0xff, 0x40, 0x47, 0x68, 0xef};
 static const uint8_t LOSS[13] = {0x00, 0x00, 0x00, 0x0d, 0x03, 0x12, 0x34, 0x56, 0x78, 0x76, 0x7a, 0xac, 0x24};
@@ -366,7 +367,7 @@ static void sending_is_held(void) {
     sedge_commander_close(&commander);
 }
 
-/* The order to restart has the boot count that is known, and is sent again a round trip later, until there is another. */
+/* The order to restart has the known boot count, and is sent again a round trip later, until there is another. */
 static void a_board_is_restarted(void) {
     uint8_t store[83];
     memcpy(store, GIVEN, 35);

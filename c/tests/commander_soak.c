@@ -1,13 +1,14 @@
-/* Plays random sessions of a commander with a board: `commander_soak SESSIONS [SEED]`. Either end is killed at any action,
- * and what it writes then is cut off at any octet. One copy of the board's record is spoiled while both are good; in
- * some sessions both are, and the record is rebuilt. In some the ground is opened at an older store, and later again at
- * the one that it left. In half of them the link not only loses frames: frames overtake each other and come again, at
- * once or much later, and so do statuses. The store is replaced by a fresh one at times, the operator pauses, goes on
- * and restarts the board, and in some sessions the round trip is set too short. At last the link is good, and every
- * command that is in the store must get its fate. commanding.h contains both ends and the checks.
+/* Plays random sessions of a commander with a board: `commander_soak SESSIONS [SEED]`. Either end is killed at any
+ * action, and what it writes then is cut off at any octet. One copy of the board's record is spoiled while both are
+ * good; in some sessions both are, and the record is rebuilt. In some the ground is opened at an older store, and
+ * later again at the one that it left. In half of them the link not only loses frames: frames overtake each other and
+ * come again, at once or much later, and so do statuses. The store is replaced by a fresh one at times, the operator
+ * pauses, goes on and restarts the board, and in some sessions the round trip is set too short. At last the link is
+ * good, and every command that is in the store must get its fate. commanding.h contains both ends and the checks.
  *
- * Writes how often what happened, and ends with 0 if all is as wanted. 10,000 sessions take some seconds. Compiled with
- * -DPLANT=K, one end makes the mistake K of commanding.h, and 3,000 sessions must find it: the program ends with 1. */
+ * Writes how often what happened, and ends with 0 if all is as wanted. 10,000 sessions take some seconds. Compiled
+ * with -DPLANT=K, one end makes the mistake K of commanding.h, and 3,000 sessions must find it: the program ends
+ * with 1. */
 #include "commanding.h"
 #include <stdlib.h>
 
@@ -31,7 +32,8 @@ static struct {
 
 /* What happened in all sessions. */
 static struct {
-    unsigned long sessions, ticks, commands, executed, unknown, foreign, losses, cuts, deaths, olds, restarts, alerts, fresh;
+    unsigned long sessions, ticks, commands, executed, unknown, foreign, losses, cuts, deaths, olds, restarts;
+    unsigned long alerts, fresh;
 } all;
 
 static bool is_cut_off(enum end end) {
@@ -212,8 +214,8 @@ int main(int count, char **words) {
     if (count < 2 || count > 3) return 2;
     if (count == 3) state += strtoull(words[2], NULL, 10) * 2;
     for (left = strtoul(words[1], NULL, 10); left > 0 && failures == 0; left--) play_session();
-    printf("%lu sessions, %lu ticks, %lu commands: %lu executed, %lu unknown, %lu times foreign\n", all.sessions, all.ticks,
-           all.commands, all.executed, all.unknown, all.foreign);
+    printf("%lu sessions, %lu ticks, %lu commands: %lu executed, %lu unknown, %lu times foreign\n", all.sessions,
+           all.ticks, all.commands, all.executed, all.unknown, all.foreign);
     printf("%lu times the board was killed and %lu times the ground, %lu starts, %lu older stores, %lu fresh ones, "
            "%lu sessions with a lost record, %lu alerts\n",
            all.cuts, all.deaths, all.restarts, all.olds, all.fresh, all.losses, all.alerts);

@@ -1,5 +1,5 @@
-/* A ground with a commander, and a board with a node and a struct sedge_log, over a link. Each of both ends is killed at
- * any point if is_cut_off() of the file that includes this one says so; what it wrote then is cut off at any octet. What
+/* A ground with a commander, and a board with a node and a struct sedge_log, over a link. Each end is killed at any
+ * point if is_cut_off() of the file that includes this one says so; what it writes then is cut off at any octet. What
  * must hold of commands is checked as it happens: the numbers that are executed increase; a command that is reported
  * as executed was executed, whole; one that is reported as unknown is not executed later; fates are reported in order;
  * and each command that was stored has a fate when the link is good again (is_all_told).
@@ -77,7 +77,8 @@ static long now;
 static void put(struct way *way, const struct frame *frame, long arrives) {
     size_t at;
     if (way->count == WAY) return;
-    for (at = way->count++; at > 0 && way->frames[at - 1].arrives > arrives; at--) way->frames[at] = way->frames[at - 1];
+    for (at = way->count++; at > 0 && way->frames[at - 1].arrives > arrives; at--)
+        way->frames[at] = way->frames[at - 1];
     way->frames[at] = *frame;
     way->frames[at].arrives = arrives;
 }
@@ -93,7 +94,10 @@ static void send_on(struct way *way, const uint8_t *octets, size_t count) {
     if (!way->is_wild) return;
     way->tape[way->taped++ % TAPE] = frame;
     if (draw(5) == 0) put(way, &frame, way->last + (long)draw(3));
-    if (draw(5) == 0) put(way, &way->tape[draw((uint32_t)(way->taped < TAPE ? way->taped : TAPE))], way->last + (long)draw(3));
+    if (draw(5) == 0) {
+        uint32_t old = draw((uint32_t)(way->taped < TAPE ? way->taped : TAPE));
+        put(way, &way->tape[old], way->last + (long)draw(3));
+    }
 }
 
 /* Takes the next frame that has arrived; whether there is one. */
@@ -178,7 +182,7 @@ static bool board_writes(size_t place, const uint8_t *octets) {
     if (PLANT == 12 || (PLANT == 5 && place == 1) || (PLANT == 11 && place == 1)) return true;
     if (PLANT == 13 && board.is_repairing) {
         board.is_repairing = false;
-        if (memcmp(board.places[place], octets, 50) != 0 && memcmp(board.places[1 - place], octets, 50) == 0) return true;
+        if (memcmp(board.places[1 - place], octets, 50) == 0) return true;
     }
     is_cut = is_board_cut();
     if (is_cut) many = draw(51);

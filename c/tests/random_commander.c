@@ -1,9 +1,9 @@
-/* Random calls of a commander: `random_commander COUNT`. Each call answers with one of its numbers. One that refuses has
- * written nothing and left the commander as it was, as far as it is read; one that writes octets has written those that
- * it says, and no others. The store is what the commander gave; it is opened again now and then, also cut off or with an
- * octet changed, and what is good of it is never more than there is. Octets end where a page begins that may not be
- * touched. One allocation in some is refused, and only a call during which one was answers that there was no memory.
- * Ends with 0 where all is as wanted and all memory is given back, and says what is not. */
+/* Random calls of a commander: `random_commander COUNT`. Each call answers with one of its numbers. One that refuses
+ * has written nothing and left the commander as it was, as far as it is read; one that writes octets has written those
+ * that it says, and no others. The store is what the commander gave; it is opened again now and then, also cut off or
+ * with an octet changed, and what is good of it is never more than there is. Octets end where a page begins that may
+ * not be touched. One allocation in some is refused, and only a call during which one was answers that there was no
+ * memory. Ends with 0 where all is as wanted and all memory is given back, and says what is not. */
 #define _DEFAULT_SOURCE
 #include "memory.h"
 #include <sedgechisel_nodes.h>
@@ -309,9 +309,9 @@ static void board_acts(void) {
 }
 
 int main(int count, char **words) {
-    static void (*const kinds[])(void) = {gives, acts, acts, acts, acts, stores, stores, tells, tells, hears_status,
-                                          hears_frame, hears_frame, takes, takes, renews, operates, operates, board_acts,
-                                          board_acts, board_acts};
+    static void (*const kinds[])(void) = {gives, acts, acts, acts, acts, stores, stores, tells, tells,
+                                          hears_status, hears_frame, hears_frame, takes, takes, renews,
+                                          operates, operates, board_acts, board_acts, board_acts};
     unsigned long left;
     if (count != 2 || make_regions() != 0) return 2;
     sedge_config_default(&config);
