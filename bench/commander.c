@@ -1,5 +1,5 @@
-/* Times the calls of a commander beside the calls of a ground that it makes: `commander`. A session with a board is
- * played once, and what comes down is kept. Then the commander plays its side of the same session again, and so does a
+/* Times the calls of a commander beside the calls of a ground that it makes, for bench/commander. A session with a board
+ * is played once, and what comes down is kept. Then the commander plays its side of the same session again, and so does a
  * ground, with the same packets, frames and ticks; each frame that goes up is the same. Prints a line for each session:
  * what it is, the processor time of both for a command in nanoseconds, the least of some tries each, and how many times
  * as long the commander takes. Last it prints how many octets each of 100,000 commands without a fate takes beside its
@@ -251,8 +251,8 @@ static void compares(size_t count, size_t each) {
         of_ground = took < of_ground ? took : of_ground;
         WANT(hash == wanted);
     }
-    printf("%zu octets, a frame after %zu|%.1f|%.1f|%.2f\n", count, each, of_commander / COMMANDS, of_ground / COMMANDS,
-           of_commander / of_ground);
+    printf("| %zu octets, a telemetry frame for each %zu commands | %.0f | %.0f | %.2f |\n", count, each,
+           of_commander / COMMANDS, of_ground / COMMANDS, of_commander / of_ground);
 }
 
 /* Octets that a commander asked for, by each of these commands, beside its packet. */
@@ -270,7 +270,7 @@ static void memory(void) {
         WANT(sedge_commander_stored(&commander, due) == 0);
     }
     count = asked - before - (size_t)MANY * 34;
-    printf("octets for each of %d commands beside its packet: %.2f now\n", MANY, (double)count / MANY);
+    printf("%.1f octets for each of %d commands without a fate, beside its packet\n", (double)count / MANY, MANY);
 }
 
 int main(void) {
@@ -278,6 +278,7 @@ int main(void) {
     WANT(packets != NULL);
     sedge_config_default(&config);
     for (size_t k = 0; k < sizeof content; k++) content[k] = (uint8_t)(k * 7);
+    puts("| Session | commander, ns for a command | ground, ns | times |\n|---|---|---|---|");
     compares(20, 1);
     compares(20, 8);
     compares(200, 1);

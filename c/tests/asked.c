@@ -11,7 +11,7 @@
 
 /* The octets of a ground and of a spacecraft, of a place in a list of segments, of packets or of open parts, of one in
  * the list of submissions, and of the extractor's packet; and how many segments may be sent and not acknowledged. */
-enum { GROUND = 400, SPACECRAFT = 344, PLACE = 32, NUMBER = 8, EXTRACTOR = 65542, FRAME = 1016, SENT = 127 };
+enum { GROUND = 400, SPACECRAFT = 344, COMMANDER = 728, GIVEN = 40, PLACE = 32, NUMBER = 8, EXTRACTOR = 65542, FRAME = 1016, SENT = 127 };
 
 static int failures;
 
@@ -42,6 +42,7 @@ static struct sedge_config config;
 static uint32_t maps;
 static struct sedge_ground ground;
 static struct sedge_spacecraft spacecraft;
+static struct sedge_commander commander;
 static struct sedge_sim sim;
 static uint8_t packet[65542], octets[1024];
 
@@ -118,6 +119,23 @@ static void asks_on_board(void) {
     WANT(ASKED(sedge_spacecraft_telemetry(&spacecraft, packet, count)) == (count < 8 ? 8 : count) + 16 && live == 7);
 }
 
+/* A commander asks for the lists of its ground. The first command asks for its packet three times, for its entry twice,
+ * and for a list of four; of these its packet, the entry that is due and the list stay. */
+static void asks_of_commander(void) {
+    const struct sedge_mission mission = {2, 6, 2, (uint8_t)(maps - 1), 0};
+    size_t good, count, most = (size_t)config.part * config.queue_slots;
+    uint32_t number;
+    if (config.part < 23 || config.max_packet < 23) return;
+    WANT(ASKED(sedge_commander_open(&commander, &config, &mission, octets, 0, &good)) == COMMANDER + lists_of_ground());
+    WANT(live == 5);
+    most = most < config.max_packet ? most : config.max_packet;
+    count = below((uint32_t)most - 13 < 65529 ? (uint32_t)most - 13 : 65529);
+    WANT(ASKED(sedge_commander_command(&commander, 7, (uint8_t)(maps - 1), 5, 0, packet, count, &number))
+         == 2 * (count + 14) + 2 * (count + 32) + 4 * GIVEN);
+    WANT(live == 8);
+    sedge_commander_close(&commander);
+}
+
 /* What a link asks for beside its two nodes is the same for all. */
 static void asks_of_link(void) {
     static size_t same;
@@ -134,6 +152,8 @@ int main(int count, char **words) {
         any_config();
         asks_on_ground();
         sedge_ground_close(&ground);
+        WANT(live == 0);
+        asks_of_commander();
         WANT(live == 0);
         asks_on_board();
         sedge_spacecraft_close(&spacecraft);
