@@ -5,7 +5,6 @@
  * malloc's, counted, with one allocation refused; or, with OVER_MEMORY, that of a file of c/memory. */
 #include "commanding.h"
 #include <sedgechisel_memory.h>
-#include <stdlib.h>
 
 /* ---- Memory, unless another is linked. ---- */
 

@@ -10,7 +10,6 @@
  * with -DPLANT=K, one end makes the mistake K of commanding.h, and 3,000 sessions must find it: the program ends
  * with 1. */
 #include "commanding.h"
-#include <stdlib.h>
 
 static uint64_t state = 0x9e3779b97f4a7c15u;
 
