@@ -39,7 +39,10 @@ export interface Config {
 
 /** The settings of a mission. */
 export interface Mission {
-    /** The longest time in ticks from sending a frame to the arrival of a CLCW that was made after it. */
+    /**
+     * The longest time in ticks from sending a frame to the arrival of a CLCW and of a status that were both made after
+     * the frame arrived.
+     */
     roundTrip: number;
     /** The APID of orders, 0 to 2,046. */
     orders: number;
@@ -49,7 +52,7 @@ export interface Mission {
     map: number;
     /**
      * Whether sending stops after a restart of the board, or the loss of its record, until `goOn` is called. The first
-     * status of a board counts as a restart.
+     * status of a board counts as a restart. No pause is stored.
      */
     holds?: boolean;
 }

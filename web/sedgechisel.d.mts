@@ -391,7 +391,10 @@ export interface sedge_commander {
 }
 
 export interface sedge_mission {
-    /** The longest time in ticks from sending a frame to the arrival of a CLCW that was made after it. */
+    /**
+     * The longest time in ticks from sending a frame to the arrival of a CLCW and of a status that were both made after
+     * the frame arrived.
+     */
     round_trip: number;
     /** The APID of orders, 0 to 2,046. */
     orders: number;
@@ -401,7 +404,7 @@ export interface sedge_mission {
     map: number;
     /**
      * 1 if sending stops after a restart of the board, or the loss of its record, until `sedge_commander_go_on` is
-     * called, otherwise 0. The first status of a board counts as a restart.
+     * called, otherwise 0. The first status of a board counts as a restart. No pause is stored.
      */
     holds: number;
 }
@@ -1052,10 +1055,10 @@ export interface Calls {
     sedge_commander_open(commander: Partial<sedge_commander>, config: Partial<sedge_config>, mission: Partial<sedge_mission>, store: Uint8Array, good: Partial<Box>): number;
     /**
      * Gives the commander a command, after all others, and writes its number. The commander writes the command packet;
-     * `apid` and `sequence` are its APID and its sequence count, `content` the mission's octets, and `tag` is the
-     * caller's own. Returns 0, or the first that applies of `SEDGE_LEDGER_FIELD_RANGE` (a MAP that is not open, an APID
-     * above 2,046, a sequence count above 16,383, or more than 65,528 octets), `SEDGE_LEDGER_TOO_LONG`,
-     * `SEDGE_LEDGER_NO_NUMBER` and `SEDGE_LEDGER_MEMORY`.
+     * `apid` and `sequence` are its APID and its sequence count, and `content` the mission's octets. `tag` is the
+     * caller's own: give each command another one, because reports carry only the tag. Returns 0, or the first that
+     * applies of `SEDGE_LEDGER_FIELD_RANGE` (a MAP that is not open, an APID above 2,046, a sequence count above
+     * 16,383, or more than 65,528 octets), `SEDGE_LEDGER_TOO_LONG`, `SEDGE_LEDGER_NO_NUMBER` and `SEDGE_LEDGER_MEMORY`.
      */
     sedge_commander_command(commander: Partial<sedge_commander>, tag: bigint, map: number, apid: number, sequence: number, content: Uint8Array, number: Partial<Box>): number;
     /**
@@ -1089,8 +1092,10 @@ export interface Calls {
      */
     sedge_commander_unstored(commander: Partial<sedge_commander>, out: Uint8Array, count: Partial<Box>): number;
     /**
-     * Records that all octets of `sedge_commander_unstored` are in the store; `count` is their number. Changes nothing
-     * if it is another number. Returns 0.
+     * Records that all octets of `sedge_commander_unstored` are in the store; `count` is their number. Call nothing
+     * else of the commander between the two: a command or a status adds octets. Returns 0, or changes nothing and
+     * returns `SEDGE_LEDGER_ABSENT` if this is not the number of octets that are due: if octets were appended, open the
+     * commander from the store again.
      */
     sedge_commander_stored(commander: Partial<sedge_commander>, count: number): number;
     /**
@@ -1114,18 +1119,22 @@ export interface Calls {
      */
     sedge_commander_progress(commander: Partial<sedge_commander>, number: number, progress: Partial<Box>): number;
     /**
-     * Stops the sending of commands until `sedge_commander_go_on`. Frames that were sent may be retransmitted. Returns
-     * 0.
+     * Stops the submission of commands to the ground until `sedge_commander_go_on`. The ground still sends the commands
+     * that were submitted. Returns 0.
      */
     sedge_commander_pause(commander: Partial<sedge_commander>): number;
-    /** Resumes the sending of commands. Returns 0. */
+    /** Resumes the submission of commands. Returns 0. */
     sedge_commander_go_on(commander: Partial<sedge_commander>): number;
-    /** Has the order to restart sent to the board, until the board has another boot count. Returns 0. */
+    /**
+     * Has the order to restart sent to the board, until a restart of the board or the loss of its record is reported.
+     * Returns 0.
+     */
     sedge_commander_restart_board(commander: Partial<sedge_commander>): number;
     /**
-     * Makes the order that brings a record to a board that has lost its own; an operator decides this. Nothing is known
-     * then of the commands that may have been sent and have no fate. Returns 0, or the first that applies of
-     * `SEDGE_LEDGER_NOT_LOST`, `SEDGE_LEDGER_NO_BOOT` and `SEDGE_LEDGER_MEMORY`.
+     * Makes the order that brings a record to a board that has lost its own; an operator decides this. Once a status
+     * shows that the board obeyed it, each command that was stored by now and has no fate is UNKNOWN, whether or not it
+     * was sent. Returns 0, or the first that applies of `SEDGE_LEDGER_NOT_LOST`, `SEDGE_LEDGER_NO_BOOT` and
+     * `SEDGE_LEDGER_MEMORY`.
      */
     sedge_commander_rebuild(commander: Partial<sedge_commander>): number;
     /**
@@ -1137,10 +1146,10 @@ export interface Calls {
     sedge_commander_read_ground(commander: Partial<sedge_commander>, read: Partial<sedge_ground_reading>): number;
     /**
      * Writes the octets of a fresh store of the same commands, and their number; the commander does not change. Write
-     * them to a new file, replace the store with it, and call `sedge_commander_renewed`. If `worth` of
-     * `sedge_commander_read` is 1, half the length of the present store is room enough. Returns 0, or the first that
-     * applies of `SEDGE_LEDGER_OWING` (something must be stored or reported first), `SEDGE_LEDGER_MEMORY` and
-     * `SEDGE_LEDGER_ROOM`.
+     * them to a new file, replace the store with it, and call `sedge_commander_renewed`; append nothing to the store
+     * meanwhile. If `worth` of `sedge_commander_read` is 1, half the length of the present store is room enough.
+     * Returns 0, or the first that applies of `SEDGE_LEDGER_OWING` (something must be stored or reported first),
+     * `SEDGE_LEDGER_MEMORY` and `SEDGE_LEDGER_ROOM`.
      */
     sedge_commander_fresh(commander: Partial<sedge_commander>, out: Uint8Array, count: Partial<Box>): number;
     /**

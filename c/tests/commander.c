@@ -143,7 +143,8 @@ static void stores(const uint8_t *octets, size_t wanted) {
     WANT(out[0] == 0x55);
     WANT(sedge_commander_unstored(&commander, out, 1100, &count) == 0 && count == wanted && out[count] == 0x55);
     WANT(memcmp(out, octets, count) == 0);
-    WANT(sedge_commander_stored(&commander, wanted - 1) == 0 && acts(SEDGE_COMMANDER_STORE).count == wanted);
+    WANT(sedge_commander_stored(&commander, wanted - 1) == SEDGE_LEDGER_ABSENT);
+    WANT(acts(SEDGE_COMMANDER_STORE).count == wanted);
     WANT(sedge_commander_stored(&commander, wanted) == 0);
 }
 
@@ -169,7 +170,7 @@ static void sends(const uint8_t *octets, size_t count) {
 
 static void rests(void) {
     acts(SEDGE_COMMANDER_NOTHING);
-    WANT(sedge_commander_stored(&commander, 35) == 0);
+    WANT(sedge_commander_stored(&commander, 35) == SEDGE_LEDGER_ABSENT);
 }
 
 static void is_read(uint32_t below, uint32_t highest, uint8_t worth) {

@@ -220,7 +220,7 @@ static void stores(void) {
     memcpy(store + stored, out, count);
     if (below(8) == 0) count++;
     answer = sedge_commander_stored(&commander, count);
-    WANT(answer == 0);
+    WANT(answer == (count == wanted ? 0 : SEDGE_LEDGER_ABSENT));
     if (count == wanted) stored += count;
 }
 

@@ -55,7 +55,8 @@ impl Holds for CommanderHandle {
 #[repr(C)]
 #[derive(Clone, Copy)]
 pub struct MissionSettings {
-    /// The longest time in ticks from sending a frame to the arrival of a CLCW that was made after it.
+    /// The longest time in ticks from sending a frame to the arrival of a CLCW and of a status that were both
+    /// made after the frame arrived.
     pub round_trip: u32,
     /// The APID of orders, 0 to 2,046.
     pub orders: u16,
@@ -64,7 +65,8 @@ pub struct MissionSettings {
     /// The MAP of orders, one that is open.
     pub map: u8,
     /// 1 if sending stops after a restart of the board, or the loss of its record, until
-    /// `sedge_commander_go_on` is called, otherwise 0. The first status of a board counts as a restart.
+    /// `sedge_commander_go_on` is called, otherwise 0. The first status of a board counts as a restart. No
+    /// pause is stored.
     pub holds: u8,
 }
 

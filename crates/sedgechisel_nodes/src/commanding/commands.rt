@@ -94,7 +94,8 @@ pub extern "C" fn sedge_commander_rebuild(alloc: Global, commander: &mut Command
     held!(alloc, commander, |node| rebuilt(&mut node))
 }
 
-/// Has the order to restart sent to the board, until the board has another boot count. Returns 0.
+/// Has the order to restart sent to the board, until a restart of the board or the loss of its record is
+/// reported. Returns 0.
 #[unsafe(no_mangle)]
 pub extern "C" fn sedge_commander_restart_board(
     alloc: Global,
