@@ -178,12 +178,12 @@ function commander() {
     const answer = sedge.sedge_commander_command(handle, 9n, 3, 5, 44, Uint8Array.of(1, 2, 3), number);
     assert.deepEqual([answer, number.value], [0, 1]);
     assert.equal(sedge.sedge_commander_next(handle, action, out.subarray(1)), n.SEDGE_LEDGER_ROOM);
-    for (const stored of [34, 36, 35]) {
+    for (const [stored, answers] of [[34, n.SEDGE_LEDGER_ABSENT], [36, n.SEDGE_LEDGER_ABSENT], [35, 0]]) {
         assert.equal(sedge.sedge_commander_next(handle, action, out), 0);
         assert.deepEqual([action.kind, action.count], [n.SEDGE_COMMANDER_STORE, 35]);
         assert.equal(sedge.sedge_commander_unstored(handle, out.subarray(0, 34), count), n.SEDGE_LEDGER_ROOM);
         assert.equal(sedge.sedge_commander_unstored(handle, out, count), 0);
-        assert.deepEqual([count.value, sedge.sedge_commander_stored(handle, stored)], [35, 0]);
+        assert.deepEqual([count.value, sedge.sedge_commander_stored(handle, stored)], [35, answers]);
     }
     assert.equal(sedge.sedge_commander_next(handle, action, out), 0);
     assert.equal(action.kind, n.SEDGE_COMMANDER_NOTHING);

@@ -309,8 +309,8 @@ class Commander(Handle):
                 hand.due = (action, *answers)
             answers = hand.due[1:]
             if kind is _STORE:
-                self._asked(answers[0])
-                hand.ahead, hand.due = stored if answers[1] == _ROOM else 0, ()
+                self._is_absent(answers[0])
+                hand.ahead, hand.due = stored if answers[0] == _ABSENT else 0, ()
             elif answers and answers[0] == _ABSENT:  # something must be stored first, and then this is noted
                 hand.reported, hand.due = (_struct_for(action),), ()
             elif answers and answers[0]:
@@ -320,12 +320,10 @@ class Commander(Handle):
                 hand.due = ()
 
     def _calls_of(self, action: CommanderAction, stored: int) -> Tuple[Callable[[], int], ...]:
-        """Returns the calls of the library for an action that is complete. The second call for STORE answers whether
-        further octets came between: the first one has changed nothing then."""
+        """Returns the calls of the library for an action that is complete. The call for STORE changes nothing, and
+        answers this, if further octets came between."""
         if action.kind is _STORE:
-            note = getattr(_commander_stored, "__wrapped__")
-            return (partial(note, self._handle, stored),
-                    partial(_commander_unstored, self._handle, self._room, 0, c_size_t()))
+            return (partial(getattr(_commander_stored, "__wrapped__"), self._handle, stored),)
         if action.kind in (_SEND, _TELEMETRY):
             return ()
         return (partial(_commander_told, self._handle, _struct_for(action)),)

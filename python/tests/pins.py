@@ -126,7 +126,7 @@ OTHERS = {
     "GapCheck.__init__": "gap_check_open", "Spacecraft._open": "spacecraft_open_kept config_fault",
     "Ground._open": "ground_open_kept config_fault",
     "Commander._open": "commander_open", "Commander._made": "commander_next commander_unstored commander_take_telemetry",
-    "Commander._tells": "commander_told", "Commander._calls_of": "commander_stored commander_unstored commander_told",
+    "Commander._tells": "commander_told", "Commander._calls_of": "commander_stored commander_told",
     "Commander._read": "commander_read", "Commander.ground": "commander_read_ground",
     "Executor.__init__": "log_start", "new_record": "log_new_record", "BoardStatus.decode": "log_status_decode",
     "command_packet": "log_command_encode", "_order": "log_order_encode", "history_after": "log_history_after",
