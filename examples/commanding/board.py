@@ -1,6 +1,6 @@
-"""A board that executes each command once and in order. FOLDER has the two places of its record; if there is no FOLDER
-yet, the board is new. It executes a command by a line in FOLDER/executed. It may be killed at any moment, and started
-again."""
+"""A board that executes each command at most once, and in order. FOLDER contains the two places of its record; without
+FOLDER, the board is new. To execute a command, it appends a line to FOLDER/executed. It may be killed at any moment,
+and started again."""
 import os
 import sys
 import time

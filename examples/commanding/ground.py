@@ -1,5 +1,5 @@
-"""A ground whose commands are executed on board once and in order. It gives commands until STORE, a file, has had so
-many COMMANDS, and ends when each has its fate. It may be killed at any moment, and started again."""
+"""A ground whose commands are executed on board once and in order. It keeps them in the file STORE, gives commands up
+to the number COMMANDS, and ends when each has its fate. It may be killed at any moment, and started again."""
 import os
 import time
 

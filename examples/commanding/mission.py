@@ -1,5 +1,5 @@
-"""What the ground and the board of this example share: the managed parameters, the APIDs, and the link by UDP on
-127.0.0.1, which loses datagrams."""
+"""The parts that the ground and the board of this example share: the managed parameters, the settings of the mission,
+and a UDP link on 127.0.0.1, which loses frames."""
 import argparse
 import random
 import socket
