@@ -23,6 +23,9 @@ class Store:
         self.file = open(f"{self.name}.new", "wb+")
         self.append(octets)
         os.replace(self.file.name, self.name)
+        folder = os.open(os.path.dirname(os.path.abspath(self.name)), os.O_RDONLY)
+        os.fsync(folder)  # (the new name, too, outlives a loss of power)
+        os.close(folder)
 
 
 def act(commander: sc.Commander, store: Store, link: Link) -> None:

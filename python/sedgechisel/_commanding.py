@@ -343,7 +343,8 @@ class Commander(Handle):
         return None if self._is_absent(_commander_progress(self._handle, number, found)) else Progress(found.value)
 
     def pause(self) -> None:
-        """Stops the sending of commands until `go_on`. Frames that were sent may be retransmitted."""
+        """Stops the submission of commands to the ground until `go_on`. The ground still sends the commands that were
+        submitted."""
         self._asked(_commander_pause(self._handle))
 
     def go_on(self) -> None:
@@ -351,13 +352,14 @@ class Commander(Handle):
         self._asked(_commander_go_on(self._handle))
 
     def restart_board(self) -> None:
-        """Has the order to restart sent to the board, until the board has another boot count."""
+        """Has the order to restart sent to the board, until a restart of the board or the loss of its record is
+        reported."""
         self._asked(_commander_restart_board(self._handle))
 
     def rebuild(self) -> None:
-        """Makes the order that brings a record to a board that has lost its own; an operator decides this. Nothing is
-        known then of the commands that may have been sent and have no fate. Raises the first of LedgerFault 6
-        (NotLost), 7 (NoBoot) and 9 (Memory)."""
+        """Makes the order that brings a record to a board that has lost its own; an operator decides this. Once a
+        status shows that the board obeyed it, each command that was stored by now and has no fate is UNKNOWN, whether
+        or not it was sent. Raises the first of LedgerFault 6 (NotLost), 7 (NoBoot) and 9 (Memory)."""
         self._asked(_commander_rebuild(self._handle))
 
     def _read(self) -> _CommanderReading:

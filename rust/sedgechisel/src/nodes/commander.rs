@@ -259,7 +259,8 @@ impl Commander {
         found.then(|| Progress::of(progress))
     }
 
-    /// Stops the sending of commands until [`go_on`](Self::go_on). Frames that were sent may be retransmitted.
+    /// Stops the submission of commands to the ground until [`go_on`](Self::go_on). The ground still sends the commands
+    /// that were submitted.
     pub fn pause(&mut self) {
         done(raw::sedge_commander_pause(self.node.get()));
     }
@@ -269,13 +270,15 @@ impl Commander {
         done(raw::sedge_commander_go_on(self.node.get()));
     }
 
-    /// Has the order to restart sent to the board, until the board has another boot count.
+    /// Has the order to restart sent to the board, until a restart of the board or the loss of its record is
+    /// reported.
     pub fn restart_board(&mut self) {
         done(raw::sedge_commander_restart_board(self.node.get()));
     }
 
-    /// Makes the order that brings a record to a board that has lost its own; an operator decides this. Nothing is
-    /// known then of the commands that may have been sent and have no fate.
+    /// Makes the order that brings a record to a board that has lost its own; an operator decides this. Once a status
+    /// shows that the board obeyed it, each command that was stored by now and has no fate is unknown, whether or not
+    /// it was sent.
     ///
     /// # Errors
     ///
