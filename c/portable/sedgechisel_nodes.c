@@ -11410,7 +11410,7 @@ l3:;
     return 0;
 }
 
-/* sedge_commander_open, crates/sedgechisel_nodes/src/commanding.rt:110 */
+/* sedge_commander_open, crates/sedgechisel_nodes/src/commanding.rt:112 */
 static uint32_t sedge_commander_open_at(uint64_t commander, uint64_t config, uint64_t mission, uint64_t store,
     uint64_t store_count, uint64_t good)
 {
@@ -13492,7 +13492,7 @@ static uint32_t sedge_commander_clcw_at(uint64_t commander, uint64_t octets, uin
     return answer;
 }
 
-/* sedge_commander_close, crates/sedgechisel_nodes/src/commanding.rt:135 */
+/* sedge_commander_close, crates/sedgechisel_nodes/src/commanding.rt:137 */
 static void sedge_commander_close_at(uint64_t commander)
 {
     unsigned char frame_octets[672 + 15];
@@ -13785,7 +13785,7 @@ l4:;
     return answer;
 }
 
-/* sedge_commander_go_on, crates/sedgechisel_nodes/src/commanding/commands.rt:125 */
+/* sedge_commander_go_on, crates/sedgechisel_nodes/src/commanding/commands.rt:126 */
 static uint32_t sedge_commander_go_on_at(uint64_t commander)
 {
     uint64_t node;
@@ -14073,7 +14073,7 @@ static uint32_t sedge_commander_next_telemetry_at(uint64_t commander, uint64_t c
     return SEDGE_NODE_OK;
 }
 
-/* sedge_commander_pause, crates/sedgechisel_nodes/src/commanding/commands.rt:114 */
+/* sedge_commander_pause, crates/sedgechisel_nodes/src/commanding/commands.rt:115 */
 static uint32_t sedge_commander_pause_at(uint64_t commander)
 {
     uint64_t node;
@@ -14242,7 +14242,7 @@ static uint32_t sedge_commander_renewed_at(uint64_t commander, uint64_t count)
     return SEDGE_NODE_OK;
 }
 
-/* sedge_commander_restart_board, crates/sedgechisel_nodes/src/commanding/commands.rt:99 */
+/* sedge_commander_restart_board, crates/sedgechisel_nodes/src/commanding/commands.rt:100 */
 static uint32_t sedge_commander_restart_board_at(uint64_t commander)
 {
     uint64_t node;
@@ -17303,7 +17303,7 @@ l25:;
     return answer;
 }
 
-/* sedge_commander_progress, crates/sedgechisel_nodes/src/commanding/commands.rt:150 */
+/* sedge_commander_progress, crates/sedgechisel_nodes/src/commanding/commands.rt:151 */
 static uint32_t sedge_commander_progress_at(uint64_t commander, uint32_t number, uint64_t progress)
 {
     uint32_t v5, v2, v6;

@@ -178,8 +178,8 @@ static inline const char *sedge_ledger_fault_text(uint8_t number) {
     case 8: return "8 Owing: something must be stored or reported first";
     case 9: return "9 Memory: out of memory";
     case 252: return "252 Room: the output is too short; nothing was taken";
-    case 253: return "253 Absent: this is not the next action, the command has a fate or was not given, or the octets "
-                     "are not a CLCW";
+    case 253: return "253 Absent: this is not the next action or the number of octets that are due, the command has a "
+                     "fate or was not given, or the octets are not a CLCW";
     case 254: return "254 OutOfRange: a parameter or a setting is out of range";
     default: return number < 252 ? "?" : sedge_link_fault_text(number);
     }

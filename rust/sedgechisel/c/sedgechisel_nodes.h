@@ -464,8 +464,8 @@ enum sedge_ledger_fault {
     SEDGE_LEDGER_OWING = 8,         /* something must be stored or reported first */
     SEDGE_LEDGER_MEMORY = 9,        /* out of memory */
     SEDGE_LEDGER_ROOM = 252,        /* the output is too short; nothing was taken */
-    SEDGE_LEDGER_ABSENT = 253,      /* this is not the next action, the command has a fate or was not given, or the
-                                     * octets are not a CLCW */
+    SEDGE_LEDGER_ABSENT = 253,      /* this is not the next action or the number of octets that are due, the command
+                                     * has a fate or was not given, or the octets are not a CLCW */
     SEDGE_LEDGER_OUT_OF_RANGE = 254 /* a parameter or a setting is out of range */
 };
 
@@ -509,7 +509,7 @@ enum sedge_progress {
  *         case SEDGE_COMMANDER_STORE:
  *             if (sedge_commander_unstored(&commander, octets, sizeof octets, &count)) stop();
  *             append(octets, count);
- *             sedge_commander_stored(&commander, count);
+ *             if (sedge_commander_stored(&commander, count)) stop();
  *             break;
  *         case SEDGE_COMMANDER_SEND: send(out, action.count); break;
  *         case SEDGE_COMMANDER_TELEMETRY:
@@ -529,14 +529,14 @@ void sedge_commander_close(struct sedge_commander *commander);
 
 /* The settings of a mission. */
 struct sedge_mission {
-    uint32_t round_trip; /* the longest time in ticks from sending a frame to the arrival of a CLCW that was made
-                          * after it */
+    uint32_t round_trip; /* the longest time in ticks from sending a frame to the arrival of a CLCW and of a status
+                          * that were both made after the frame arrived */
     uint16_t orders;     /* the APID of orders, 0 to 2,046 */
     uint16_t status;     /* the APID of the board's status */
     uint8_t map;         /* the MAP of orders, one that is open */
     uint8_t holds;       /* 1 if sending stops after a restart of the board, or the loss of its record, until
                           * sedge_commander_go_on is called, otherwise 0. The first status of a board counts as a
-                          * restart */
+                          * restart. No pause is stored */
 };
 
 /* Opens a commander, with a ground in S6, from the octets of its store; a new store has none. The commander replaces
@@ -631,7 +631,8 @@ uint8_t sedge_commander_pause(struct sedge_commander *commander);
 /* Resumes the submission of commands. Returns 0. */
 uint8_t sedge_commander_go_on(struct sedge_commander *commander);
 
-/* Has the order to restart sent to the board, until the board has another boot count. Returns 0. */
+/* Has the order to restart sent to the board, until a restart of the board or the loss of its record is reported.
+ * Returns 0. */
 uint8_t sedge_commander_restart_board(struct sedge_commander *commander);
 
 /* Makes the order that brings a record to a board that has lost its own; an operator decides this. Once a status shows
