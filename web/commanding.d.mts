@@ -62,10 +62,10 @@ export class Commander extends Handle {
     get good(): number;
     /**
      * Gives the commander a command, after all others, and returns its number. The commander writes the command packet;
-     * apid and sequence are its APID and its sequence count, content the mission's octets, and tag is the caller's own.
-     * Throws the first that applies of LedgerFault 3 (FieldRange) (a MAP that is not open, an APID above 2,046, a
-     * sequence count above 16,383, or more than 65,528 octets), LedgerFault 4 (TooLong), LedgerFault 5 (NoNumber) and
-     * LedgerFault 9 (Memory).
+     * apid and sequence are its APID and its sequence count, and content the mission's octets. tag is the caller's own:
+     * give each command another one, because reports carry only the tag. Throws the first that applies of LedgerFault 3
+     * (FieldRange) (a MAP that is not open, an APID above 2,046, a sequence count above 16,383, or more than 65,528
+     * octets), LedgerFault 4 (TooLong), LedgerFault 5 (NoNumber) and LedgerFault 9 (Memory).
      * @param {number | bigint} tag
      * @param {number} map
      * @param {number} apid
@@ -124,22 +124,28 @@ export class Commander extends Handle {
      * @returns {Progress | null}
      */
     progress(number: number): Progress | null;
-    /** Stops the sending of commands until `goOn`. Frames that were sent may be retransmitted. */
+    /**
+     * Stops the submission of commands to the ground until `goOn`. The ground still sends the commands that were
+     * submitted.
+     */
     pause(): void;
-    /** Resumes the sending of commands. */
+    /** Resumes the submission of commands. */
     goOn(): void;
-    /** Has the order to restart sent to the board, until the board has another boot count. */
+    /**
+     * Has the order to restart sent to the board, until a restart of the board or the loss of its record is reported.
+     */
     restartBoard(): void;
     /**
-     * Makes the order that brings a record to a board that has lost its own; an operator decides this. Nothing is known
-     * then of the commands that may have been sent and have no fate. Throws the first that applies of LedgerFault 6
-     * (NotLost), LedgerFault 7 (NoBoot) and LedgerFault 9 (Memory).
+     * Makes the order that brings a record to a board that has lost its own; an operator decides this. Once a status
+     * shows that the board obeyed it, each command that was stored by now and has no fate is UNKNOWN, whether or not it
+     * was sent. Throws the first that applies of LedgerFault 6 (NotLost), LedgerFault 7 (NoBoot) and LedgerFault 9
+     * (Memory).
      */
     rebuild(): void;
     /**
      * Returns the octets of a fresh store of the same commands; the commander does not change. Write them to a new
-     * file, replace the store with it, and call `renewed`. Throws the first that applies of LedgerFault 8 (Owing)
-     * (something must be stored or reported first) and LedgerFault 9 (Memory).
+     * file, replace the store with it, and call `renewed`; append nothing to the store meanwhile. Throws the first that
+     * applies of LedgerFault 8 (Owing) (something must be stored or reported first) and LedgerFault 9 (Memory).
      * @returns {Uint8Array}
      */
     fresh(): Uint8Array;
