@@ -357,7 +357,8 @@ static const unsigned char constant_35[13] = {
 };
 
 /* Of command_ledger_entry_spelling, sedge_commander_unstored_at. */
-static const unsigned char constant_41[0] = {
+static const unsigned char constant_41[1] = {
+    0
 };
 
 /* Of octets_frame_check_check. */
