@@ -12,7 +12,7 @@
 /* The octets of a ground, a spacecraft and a commander, of a place in a list of segments, of packets or of open parts,
  * of one in the list of submissions and in that of commands, and of the extractor's packet; and how many segments may be
  * sent and not acknowledged. */
-enum { GROUND = 400, SPACECRAFT = 344, COMMANDER = 728, PLACE = 32, NUMBER = 8, GIVEN = 40, EXTRACTOR = 65542 };
+enum { GROUND = 400, SPACECRAFT = 344, COMMANDER = 672, PLACE = 32, NUMBER = 8, GIVEN = 40, EXTRACTOR = 65542 };
 enum { FRAME = 1016, SENT = 127 };
 
 static int failures;
