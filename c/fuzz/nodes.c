@@ -417,7 +417,7 @@ static void board_acts(struct commanded *c) {
 
 static void restarts(struct commanded *c, struct in *i) {
     uint8_t k = in8(i);
-    if (k & 1) c->places[0][k >> 2] ^= 1;
+    if (k & 1) c->places[0][(k >> 2) % 50] ^= 1;
     if (k & 2) c->places[1][k >> 2 & 31] ^= 1;
     sedge_log_start(&c->log, c->places[0], 50, c->places[1], 50, k);
 }
